@@ -62,7 +62,7 @@ pub impl Text for ShortText as ShortTextText {
             | "_dd.rule_psr" | "_dd.limit_psr" | "_dd.agent_psr" | "internal" | "kind" => {
                 ShortText::holding(word.as_bytes())
             }
-            _ => ShortText { held: [0; 64], count: 0 },
+            _ => Self::empty(),
         }
     }
 

@@ -57,11 +57,11 @@ or-or : (a b c : Bool) → (a || (b || c)) ≡ ((a || b) || c)
 or-or true b c = refl
 or-or false b c = refl
 
-or-true : (a b : Bool) → b ≡ true → (a || b) ≡ true
+pub or-true : (a b : Bool) → b ≡ true → (a || b) ≡ true
 or-true true b e = refl
 or-true false b e = e
 
-or-left : (a b : Bool) → a ≡ true → (a || b) ≡ true
+pub or-left : (a b : Bool) → a ≡ true → (a || b) ≡ true
 or-left true b e = refl
 or-left false b e = let z : _≡_ {A = Bool} false true = e in cc
 

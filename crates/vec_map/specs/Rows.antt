@@ -40,6 +40,11 @@ firsts same kept (p ∷ ps) = cond (known same (p .0) kept) (firsts same kept ps
 abbrev pub without-repeats : {K V : Type 0} → (K → K → Bool) → List (K × V) → List (K × V)
 without-repeats same xs = firsts same [] (reverse xs)
 
+-- no key stands twice
+abbrev pub No-repeats : {K V : Type 0} → (K → K → Bool) → List (K × V) → Type 0
+No-repeats same [] = Unit {0}
+No-repeats same (p ∷ ps) = (known same (p .0) ps ≡ false) × No-repeats same ps
+
 -- the memory of a row of len pairs after the repeats are taken out: the pairs that are kept, then what the reversed row leaves there
 abbrev pub deduped-room : {K V : Type 0} → (K → K → Bool) → ℕ → List (K × V) → List (K × V)
 deduped-room same len xs =

@@ -1,12 +1,12 @@
 // Pair maps: a row of pairs in lent memory, with a count and a mark, for every key that has a sameness.
 ghost use mathlib.Core.Path.{_≡_};
-ghost use mathlib.Core.Bool.{not};
+ghost use mathlib.Core.Bool.{false, not};
 ghost use Prim.Native.Nat.{ℕ};
 ghost use denote.Ref.{name};
 ghost use Rattle.std.specs.Options.{mapped};
 ghost use Rattle.std.specs.Results.{isOk};
 ghost use Rattle.vec_map.specs.Model.{row-of};
-ghost use Rattle.vec_map.specs.Rows.{last-value, items, full, insert-row, insert-answer, clear-row, mark-row, dedup-row};
+ghost use Rattle.vec_map.specs.Rows.{last-value, items, full, insert-row, insert-answer, clear-row, mark-row, dedup-row, No-repeats};
 use key::Key;
 
 pub mod float;
@@ -91,8 +91,18 @@ impl<'a, K: Key, V: Copy> VecMap<'a, K, V> {
         self.deduped = true;
     }
 
-    // Nothing on a marked row. Otherwise the row reversed, each key's first pair kept, and the mark set.
+    // Nothing on a marked row. Otherwise the row reversed, each key's first pair kept, and the mark set: every lookup
+    // answers as before, and no key stands twice.
     pub fn dedup(&mut self)
+        ensures place { λ _. ⌜ name (now (self .exit) .pairs) ≡ name (now (self .entry) .pairs) ⌝ }
+        ensures row { λ _. ⌜ row-of (now (self .exit)) ≡ dedup-row alike (row-of (now (self .entry))) ⌝ }
+        ensures lookups { λ _. ⌜ ((k : K) → last-value alike k (items (row-of (now (self .exit)))) ≡ last-value alike k (items (row-of (now (self .entry))))) ⌝ }
+        ensures once { λ _. ⌜ (row-of (now (self .entry)) .deduped ≡ false → No-repeats alike (items (row-of (now (self .exit))))) ⌝ }
+    {
+        self.take_repeats_out();
+    }
+
+    fn take_repeats_out(&mut self)
         ensures place { λ _. ⌜ name (now (self .exit) .pairs) ≡ name (now (self .entry) .pairs) ⌝ }
         ensures row { λ _. ⌜ row-of (now (self .exit)) ≡ dedup-row alike (row-of (now (self .entry))) ⌝ }
     {

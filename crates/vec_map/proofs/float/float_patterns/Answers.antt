@@ -17,4 +17,4 @@ one-pattern (fin s m k) e = absurd (false≢true e)
 
 pub returns : need.returns
 unfolding toBits ofBits ofFields odd size
-returns c = (λ bits n. one-pattern (ofBits binary64 bits) (nanBits-is binary64 bits ∙ n), refl, refl)
+returns c = (λ bits n. one-pattern (ofBits binary64 bits) (sym (nanBits-is binary64 bits) ∙ n), refl, refl)
