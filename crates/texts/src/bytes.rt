@@ -7,7 +7,11 @@ ghost use Rattle.texts.specs.Words.{At};
 pub fn byte_of(bytes: &[u8], place: usize) -> Option<u8>
     ensures { λ r. ⌜ At (now (bytes .entry)) place r ⌝ }
 {
-    if place < bytes.len() { Some(bytes[place]) } else { None }
+    if place < bytes.len() {
+        Some(bytes[place])
+    } else {
+        None
+    }
 }
 
 // Whether both slices hold the same bytes.

@@ -53,15 +53,25 @@ pub impl Text for ShortText as ShortTextText {
     ghost few = { λ t. short-few (t .count) (t .held) (t .within) };
 
     fn empty() -> ShortText {
-        ShortText { held: [0; 64], count: 0 }
+        ShortText {
+            held: [0; 64],
+            count: 0,
+        }
     }
 
     fn from_static_str(word: &'static str) -> ShortText {
         match word {
-            "_dd.top_level" | "_dd.measured" | "_dd.base_service" | "language" | "process_id" | "_dd.origin"
-            | "_dd.rule_psr" | "_dd.limit_psr" | "_dd.agent_psr" | "internal" | "kind" => {
-                ShortText::holding(word.as_bytes())
-            }
+            "_dd.top_level"
+            | "_dd.measured"
+            | "_dd.base_service"
+            | "language"
+            | "process_id"
+            | "_dd.origin"
+            | "_dd.rule_psr"
+            | "_dd.limit_psr"
+            | "_dd.agent_psr"
+            | "internal"
+            | "kind" => { ShortText::holding(word.as_bytes()) }
             _ => Self::empty(),
         }
     }

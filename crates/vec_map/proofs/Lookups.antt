@@ -123,10 +123,11 @@ module _ {K V : Type 0} (same : K → K → Bool) (fair : Equivalence same) wher
       → No-repeats same (firsts same kept (p ∷ ys))
   apart-step kept ys p (inl e) on off = rw e on
   apart-step kept ys p (inr e) on off =
-      rw e
-      ( not-again (p .0) (kept ++ p ∷ []) ys
-          (known-push same (p .0) kept p ∙ or-true (known same (p .0) kept) (same (p .0) (p .0)) (fair .itself (p .0)))
-      , off )
+      rw e (
+        not-again (p .0) (kept ++ p ∷ []) ys
+            (known-push same (p .0) kept p ∙ or-true (known same (p .0) kept) (same (p .0) (p .0)) (fair .itself (p .0))),
+        off,
+      )
 
   firsts-apart : (kept ys : List (K × V)) → No-repeats same (firsts same kept ys)
   firsts-apart kept [] = tt

@@ -18,20 +18,20 @@ pub take-min : {X : Type 0} (n : ℕ) (xs : List X) → take n xs ≡ take (min 
 take-min n xs = ⊎-elim
     (λ h. let e : min n (length xs) ≡ n = omega arith in rw e refl)
     (λ h. let e : min n (length xs) ≡ length xs = omega arith in
-      let a = take-all n xs h in
-      let m : length xs ≤ length xs = omega arith in
-      let b = take-all (length xs) xs m in
-      rw e (a ∙ sym b))
+    let a = take-all n xs h in
+    let m : length xs ≤ length xs = omega arith in
+    let b = take-all (length xs) xs m in
+    rw e (a ∙ sym b))
     (cases-lt n (length xs))
 
 pub drop-min : {X : Type 0} (n : ℕ) (xs : List X) → drop n xs ≡ drop (min n (length xs)) xs
 drop-min n xs = ⊎-elim
     (λ h. let e : min n (length xs) ≡ n = omega arith in rw e refl)
     (λ h. let e : min n (length xs) ≡ length xs = omega arith in
-      let a = drop-all n xs h in
-      let m : length xs ≤ length xs = omega arith in
-      let b = drop-all (length xs) xs m in
-      rw e (a ∙ sym b))
+    let a = drop-all n xs h in
+    let m : length xs ≤ length xs = omega arith in
+    let b = drop-all (length xs) xs m in
+    rw e (a ∙ sym b))
     (cases-lt n (length xs))
 
 -- a row whose first pairs are reversed, where end is the smaller of len and the row's length
@@ -116,33 +116,35 @@ module _ {K V : Type 0} (same : K → K → Bool) where
       let p : count + (i - count) ≡ i = omega arith in
       let a = drop-more (take end ys) i x m in
       let d : getD (take end ys) i x ≡ x =
-          getD-take end ys i x h
-          ∙ (ap (λ j. getD ys j x) (sym p)
-          ∙ (sym (getD-drop count ys (i - count) x)
-          ∙ (ap (λ zs. getD zs (i - count) x) (sym r)
-          ∙ (getD-drop count row (i - count) x ∙ (ap (λ j. getD row j x) p ∙ sym e))))) in
+      getD-take end ys i x h
+      ∙ (ap (λ j. getD ys j x) (sym p)
+      ∙ (sym (getD-drop count ys (i - count) x)
+      ∙ (ap (λ zs. getD zs (i - count) x) (sym r)
+      ∙ (getD-drop count row (i - count) x ∙ (ap (λ j. getD row j x) p ∙ sym e))))) in
       a ∙ ap (λ y. y ∷ drop (i + 1) (take end ys)) d
 
   pub going-known : (ys row : List (K × V)) (end count i : ℕ) (x : K × V) → i < end → end ≤ length ys → Going ys row end count i → x ≡ getD row i x → known same (x .0) (take count row) ≡ true → Going ys row end count (i + 1)
-  going-known ys row end count i x h l s e k =
-      ( ap (λ zs. take count row ++ zs)
-          (sym (firsts-known (take count row) (drop (i + 1) (take end ys)) x k) ∙ ap (λ zs. firsts same (take count row) zs) (sym (next ys row end count i x h l (s .1) (s .2) e)))
-        ∙ s .0
-      , s .1
-      , omega arith )
+  going-known ys row end count i x h l s e k = (
+    ap (λ zs. take count row ++ zs)
+        (sym (firsts-known (take count row) (drop (i + 1) (take end ys)) x k) ∙ ap (λ zs. firsts same (take count row) zs) (sym (next ys row end count i x h l (s .1) (s .2) e)))
+        ∙ s .0,
+    s .1,
+    omega arith,
+  )
 
   pub going-new : (ys row : List (K × V)) (end count i : ℕ) (x : K × V) → i < end → end ≤ length ys → length row ≡ length ys → Going ys row end count i → x ≡ getD row i x → known same (x .0) (take count row) ≡ false → Going ys (set row count x) end (count + 1) (i + 1)
   going-new ys row end count i x h l n s e k =
       let b : count ≤ i = s .2 in
       let m : count < length row = omega arith in
-      let t = take-more-set row count x m in
-      ( ap (λ ks. ks ++ firsts same ks (drop (i + 1) (take end ys))) t
-        ∙ (append-assoc (take count row) (x ∷ []) (firsts same (take count row ++ x ∷ []) (drop (i + 1) (take end ys)))
-        ∙ (ap (λ zs. take count row ++ zs)
+      let t = take-more-set row count x m in (
+        ap (λ ks. ks ++ firsts same ks (drop (i + 1) (take end ys))) t
+            ∙ (append-assoc (take count row) (x ∷ []) (firsts same (take count row ++ x ∷ []) (drop (i + 1) (take end ys)))
+            ∙ (ap (λ zs. take count row ++ zs)
             (sym (firsts-new (take count row) (drop (i + 1) (take end ys)) x k) ∙ ap (λ zs. firsts same (take count row) zs) (sym (next ys row end count i x h l (s .1) (s .2) e)))
-        ∙ s .0))
-      , (drop-set-lt (count + 1) row count x (omega arith) ∙ (sym (drop-drop 1 count row) ∙ (ap (λ zs. drop 1 zs) (s .1) ∙ drop-drop 1 count ys)))
-      , omega arith )
+            ∙ s .0)),
+        (drop-set-lt (count + 1) row count x (omega arith) ∙ (sym (drop-drop 1 count row) ∙ (ap (λ zs. drop 1 zs) (s .1) ∙ drop-drop 1 count ys))),
+        omega arith,
+      )
 
   -- the end of the loop
   pub going-all : (ys row : List (K × V)) (end count i : ℕ) → end ≤ i → end ≤ length ys → length row ≡ length ys → Going ys row end count i → count ≤ end → take count row ≡ firsts same [] (take end ys)
@@ -157,9 +159,10 @@ module _ {K V : Type 0} (same : K → K → Bool) where
       let b : count ≤ i = s .2 in
       let e = going-all ys row end count i h l n s (omega arith) in
       let c : length (take count row) ≡ count = simp length-take (omega arith) in
-      let f : count ≡ length (firsts same [] (take end ys)) = sym c ∙ ap length e in
-      ( f
-      , sym (take-append-drop count row)
-        ∙ (ap (λ zs. zs ++ drop count row) e
-        ∙ (ap (λ zs. firsts same [] (take end ys) ++ zs) (s .1)
-        ∙ ap (λ k. firsts same [] (take end ys) ++ drop k ys) f)) )
+      let f : count ≡ length (firsts same [] (take end ys)) = sym c ∙ ap length e in (
+        f,
+        sym (take-append-drop count row)
+            ∙ (ap (λ zs. zs ++ drop count row) e
+            ∙ (ap (λ zs. firsts same [] (take end ys) ++ zs) (s .1)
+            ∙ ap (λ k. firsts same [] (take end ys) ++ drop k ys) f)),
+      )

@@ -14,11 +14,12 @@ alike-from false true f g = g refl
 alike-from false false f g = refl
 
 pub same-bytes-fair : {K : Type 0} (bytes : K → List ℕ) → Equivalence (λ (a b : K). sameBytes (bytes a) (bytes b))
-same-bytes-fair bytes = record
-    { itself = λ a. sameBytes-decides (bytes a) (bytes a) .1 refl
-    ; either = λ a b.
-        alike-from (sameBytes (bytes a) (bytes b)) (sameBytes (bytes b) (bytes a))
-        (λ e. sameBytes-decides (bytes b) (bytes a) .1 (sym (sameBytes-decides (bytes a) (bytes b) .0 e)))
-        (λ e. sameBytes-decides (bytes a) (bytes b) .1 (sym (sameBytes-decides (bytes b) (bytes a) .0 e)))
-    ; onward = λ a b c p q.
-        sameBytes-decides (bytes a) (bytes c) .1 (sameBytes-decides (bytes a) (bytes b) .0 p ∙ sameBytes-decides (bytes b) (bytes c) .0 q) }
+same-bytes-fair bytes = record {
+  itself = λ a. sameBytes-decides (bytes a) (bytes a) .1 refl;
+  either = λ a b.
+      alike-from (sameBytes (bytes a) (bytes b)) (sameBytes (bytes b) (bytes a))
+      (λ e. sameBytes-decides (bytes b) (bytes a) .1 (sym (sameBytes-decides (bytes a) (bytes b) .0 e)))
+      (λ e. sameBytes-decides (bytes a) (bytes b) .1 (sym (sameBytes-decides (bytes b) (bytes a) .0 e)));
+  onward = λ a b c p q.
+      sameBytes-decides (bytes a) (bytes c) .1 (sameBytes-decides (bytes a) (bytes b) .0 p ∙ sameBytes-decides (bytes b) (bytes c) .0 q);
+}

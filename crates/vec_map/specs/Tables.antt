@@ -5,7 +5,7 @@ use mathlib.Core.Bool.{Bool, cond}
 use Prim.Native.Nat.{ℕ, _+_, _*_}
 use lib.Dec.{leb}
 use lib.ListN.{length, take, drop}
-use Rattle.vec_map.specs.declared.table.head.Head.{Head}
+use Rattle.vec_map.specs.declared.head.Head.{Head}
 use Rattle.vec_map.specs.Rows.{Row}
 
 -- a row's memory with its count and mark

@@ -8,20 +8,22 @@ ghost use Rattle.std.specs.Results.{isOk};
 ghost use Rattle.vec_map.specs.Rows.{full, insert-row, dedup-row};
 ghost use Rattle.vec_map.specs.Tables.{headed, row, in-table, changed, changed-row, Others-stay};
 use crate::VecMap;
+use crate::head::Head;
 use crate::key::Key;
-use head::Head;
-
-pub mod head;
 
 // One pair more in a row. A full row hands the pair back.
-pub fn insert_row<K: Key, V: Copy>(row: &mut [(K, V)], head: &mut Head, key: K, value: V) -> Result<(), (K, V)>
+pub fn insert_row<K: Key, V: Copy>(
+    row: &mut [(K, V)],
+    head: &mut Head,
+    key: K,
+    value: V,
+) -> Result<(), (K, V)>
     ensures test { λ r. ⌜ isOk r ≡ not (full (headed (now (row .entry)) (now (head .entry)))) ⌝ }
     ensures row { λ _. ⌜ headed (now (row .exit)) (now (head .exit)) ≡ insert-row (headed (now (row .entry)) (now (head .entry))) key value ⌝ }
 {
-    let mut map = VecMap::new(row, head.count, head.deduped);
+    let mut map = VecMap::new(row, *head);
     let answer = map.insert(key, value);
-    head.count = map.len();
-    head.deduped = map.is_deduped();
+    *head = map.head();
     answer
 }
 
@@ -29,10 +31,9 @@ pub fn insert_row<K: Key, V: Copy>(row: &mut [(K, V)], head: &mut Head, key: K, 
 pub fn dedup_row<K: Key, V: Copy>(row: &mut [(K, V)], head: &mut Head)
     ensures { λ _. ⌜ headed (now (row .exit)) (now (head .exit)) ≡ dedup-row alike (headed (now (row .entry)) (now (head .entry))) ⌝ }
 {
-    let mut map = VecMap::new(row, head.count, head.deduped);
+    let mut map = VecMap::new(row, *head);
     map.dedup();
-    head.count = map.len();
-    head.deduped = map.is_deduped();
+    *head = map.head();
 }
 
 // Where a row begins, none where it is not wholly in a table of `len` pairs.

@@ -10,8 +10,9 @@ returns g c =
     let fair = g .K·Key .fair in
     let before = row-of (c .args .self .now) in
     let e = c .take-repeats-out .ensures .row in
-    record
-    { place = c .take-repeats-out .ensures .place
-    ; row = e
-    ; lookups = λ k. ap (λ r. last-value same k (items r)) e ∙ dedup-lookup same fair before k
-    ; once = λ f. subst (λ (r : Row (g .K .Denot) (g .V .Denot)). No-repeats same (items r)) (sym e) (dedup-apart same fair before f) }
+    record {
+      place = c .take-repeats-out .ensures .place;
+      row = e;
+      lookups = λ k. ap (λ r. last-value same k (items r)) e ∙ dedup-lookup same fair before k;
+      once = λ f. subst (λ (r : Row (g .K .Denot) (g .V .Denot)). No-repeats same (items r)) (sym e) (dedup-apart same fair before f);
+    }

@@ -14,11 +14,12 @@ returns g c =
     let end = c .min-end .result in
     let w = turned xs (c .reverse .last .self) len end (c .min-end .ensures) (c .reverse .ensures .after) in
     let f = turned-front xs len end (c .min-end .ensures) in
-    record
-    { count =
-        c .keep-firsts .ensures .count
-        ∙ (ap (λ zs. length (firsts same [] (take end zs))) w ∙ ap (λ zs. length (firsts same [] zs)) f)
-    ; room =
-        c .keep-firsts .ensures .room
-        ∙ (ap (λ zs. firsts same [] (take end zs) ++ drop (length (firsts same [] (take end zs))) zs) w
-        ∙ ap (λ zs. firsts same [] zs ++ drop (length (firsts same [] zs)) (reverse (take len xs) ++ drop len xs)) f) }
+    record {
+      count =
+          c .keep-firsts .ensures .count
+          ∙ (ap (λ zs. length (firsts same [] (take end zs))) w ∙ ap (λ zs. length (firsts same [] zs)) f);
+      room =
+          c .keep-firsts .ensures .room
+          ∙ (ap (λ zs. firsts same [] (take end zs) ++ drop (length (firsts same [] (take end zs))) zs) w
+          ∙ ap (λ zs. firsts same [] zs ++ drop (length (firsts same [] zs)) (reverse (take len xs) ++ drop len xs)) f);
+    }

@@ -10,8 +10,8 @@ pub returns-then-same-key : need.returns-then-same-key
 returns-then-same-key g c =
     let h : c .loop-i .i < length (take (c .args .count) (c .args .row .now)) = simp length-take (omega arith) in
     sym (known-at (g .K·Key .alike) (c .args .other .now .0) (take (c .args .count) (c .args .row .now)) (c .loop-i .i) (c .index-row-i .result) h
-      (read-take (c .args .row .now) (c .args .count) (c .loop-i .i) (c .index-row-i .result) (c .loop-i-test .taken) (c .index-row-i .is))
-      (sym (c .if-same-key .ensures tt)))
+    (read-take (c .args .row .now) (c .args .count) (c .loop-i .i) (c .index-row-i .result) (c .loop-i-test .taken) (c .index-row-i .is))
+    (sym (c .if-same-key .ensures tt)))
 
 pub loop-i-again : need.loop-i-again
 loop-i-again g c =

@@ -19,11 +19,12 @@ returns-in-Some g c =
     let l : length (c .insert-row .last .row) ≡ w = c .insert-row .kept .row ∙ simp (length-take, length-drop) (omega arith) in
     let all = changes (λ r. insert-row r (c .args .key) (c .args .value)) w k xs (c .insert-row .last .row) (c .args .head .now) (c .insert-row .last .head) (c .in-Some .from) e i l (c .insert-row .ensures .row) in
     let b : in-table w k xs ≡ true = le-leb (k * w + w) (length xs) i in
-    record
-    { test =
-        c .insert-row .ensures .test
-        ∙ (ap (λ zs. not (full (headed zs (c .args .head .now)))) (part-read w k (c .in-Some .from) xs e)
-        ∙ sym (ap (λ t. t && not (full (headed (row w k xs) (c .args .head .now)))) b))
-    ; table = all .0
-    ; row = all .1
-    ; others = all .2 }
+    record {
+      test =
+          c .insert-row .ensures .test
+          ∙ (ap (λ zs. not (full (headed zs (c .args .head .now)))) (part-read w k (c .in-Some .from) xs e)
+          ∙ sym (ap (λ t. t && not (full (headed (row w k xs) (c .args .head .now)))) b));
+      table = all .0;
+      row = all .1;
+      others = all .2;
+    }
