@@ -1,0 +1,4 @@
+pub mod Numbers
+pub mod OpCodes
+pub mod Reads
+pub mod Traces
