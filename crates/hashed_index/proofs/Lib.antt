@@ -1,0 +1,5 @@
+pub mod Rounds
+pub mod Seeks
+pub mod Keeps
+pub mod Moves
+pub mod Edits

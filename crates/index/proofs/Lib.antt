@@ -1,0 +1,3 @@
+pub mod Pigeons
+pub mod Entries
+pub mod Holding
