@@ -1,0 +1,6 @@
+pub mod Answers
+pub mod Performs
+pub mod Strings
+pub mod Defaults
+pub mod Decisions
+pub mod Setup

@@ -1,0 +1,4 @@
+pub mod Store
+pub mod InOrder
+pub mod Shows
+pub mod Lent
