@@ -7,7 +7,7 @@ use std::fmt;
 
 pub type Result<T> = std::result::Result<T, ChangeBufferError>;
 
-#[derive(Clone, Copy, Debug)]
+#[derive(Clone, Copy, PartialEq, Eq, Debug)]
 pub enum ChangeBufferError {
     // The tables are not in order; at set-up, their lengths or the indexes' capacities.
     OutOfOrder,

@@ -1,0 +1,6 @@
+// Cases on the limits, run on the code. Each test is proved safe and then run.
+pub mod indexes;
+pub mod layouts;
+pub mod maps;
+pub mod recorders;
+pub mod words;

@@ -1,0 +1,1 @@
+// Cases of the recorder: tables out of order, each in one way.
