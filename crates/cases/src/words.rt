@@ -43,7 +43,10 @@ mod tests {
     fn words_by_name() -> Result<(), Fail> {
         check_eq(ShortTextText::from_static_str("_dd.base_service").len(), 16)?;
         check_eq(ShortTextText::from_static_str("belt").len(), 0)?;
-        check_eq(ListedTextText::from_static_str("_dd.base_service").len(), 16)?;
+        check_eq(
+            ListedTextText::from_static_str("_dd.base_service").len(),
+            16,
+        )?;
         check_eq(ListedTextText::from_static_str("belt").len(), 0)
     }
 }
