@@ -1,0 +1,3 @@
+pub mod Follows
+pub mod Runs
+pub mod Stands

@@ -1,0 +1,4 @@
+pub mod Grammar
+pub mod Places
+pub mod Steps
+pub mod Texts

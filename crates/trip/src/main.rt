@@ -1,0 +1,13 @@
+// The program `trip`: prints the operations of change buffers that stand in files as hexadecimal text.
+mod command;
+mod file;
+
+use crate::command::FailedFromAlloc;
+use crate::command::FailedFromIo;
+use command::Failed;
+use std::env;
+
+fn main(rt: LibcRuntime) -> Result<(), Failed> {
+    let words: Vec<String> = env::args(&rt)?.skip(1).collect(rt.alloc())?;
+    command::run(&rt, words.as_slice())
+}
