@@ -9,8 +9,8 @@ use crate::error::DecodeErrorFromRefused;
 use crate::operation::Operation;
 use crate::operation::read_operation;
 use layout::buffer::ChangeBuffer;
-use refusals::ChangeBufferError;
 use layout::utils::U64FromBytes;
+use refusals::ChangeBufferError;
 use std::alloc::Global;
 
 // How the operations end.

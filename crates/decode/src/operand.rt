@@ -3,13 +3,13 @@ ghost use mathlib.Core.Path.{_≡_};
 ghost use Rattle.layout.specs.Reads.{Reads, held};
 ghost use Rattle.decode.specs.Operands.{label-name, meant, size};
 use layout::buffer::ChangeBuffer;
-use refusals::Result;
 use layout::utils::I32FromBytes;
 use layout::utils::I64FromBytes;
 use layout::utils::TraceId;
 use layout::utils::TraceIdFromBytes;
 use layout::utils::U32FromBytes;
 use layout::utils::U64FromBytes;
+use refusals::Result;
 
 // What an operand is called.
 #[derive(Clone, Copy)]

@@ -1,6 +1,9 @@
 // The program `trip`: prints the operations of change buffers that stand in files as hexadecimal text.
 mod command;
 mod file;
+mod play;
+mod run;
+mod script;
 
 use crate::command::FailedFromAlloc;
 use crate::command::FailedFromIo;
