@@ -1,4 +1,8 @@
 // Cases on the limits, run on the code. Each test is proved safe and then run.
+#[cfg(test)]
+mod decoding;
+#[cfg(test)]
+mod hexadecimal;
 pub mod indexes;
 pub mod layouts;
 pub mod maps;
