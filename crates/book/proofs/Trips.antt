@@ -3,6 +3,9 @@ use mathlib.Core.Path.{_≡_, refl, ap}
 use mathlib.Core.List.{List, [], _++_}
 use Prim.Native.Nat.{ℕ}
 use lib.Ieee.{ofBits, ofInt, toBits}
+use Rattle.vec_map.specs.Rows.{insert-row}
+use Rattle.vec_map.specs.Worked.{three, Worked as Worked-row}
+use Rattle.small_index.specs.Standing.{Worked as Worked-index}
 use Rattle.book.specs.Book.{Book}
 use Rattle.book.specs.Refusals.{Answer, accepted}
 use Rattle.book.specs.Actions.{_>>=_, give, look, change, the, ask, times, read}
@@ -41,8 +44,15 @@ two-segments : Two-segments
 unfolding flush-open
 two-segments = (refl, refl, refl)
 
+worked-row : Worked-row
+unfolding insert-row three
+worked-row = (refl, refl, refl, refl)
+
+worked-index : Worked-index
+worked-index a b c = refl
+
 pub worked-trips : Worked-trips
-worked-trips = (count-past, one-create, not-live, created-twice, two-segments)
+worked-trips = (count-past, one-create, not-live, worked-row, worked-index, created-twice, two-segments)
 
 pub worked-operations : Worked-operations
 unfolding flush-open ofBits

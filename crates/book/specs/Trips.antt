@@ -6,6 +6,8 @@ use Prim.Native.Nat.{ℕ}
 use lib.Chars.{codes}
 use lib.ListN.{length, replicate, take}
 use Rattle.std.specs.declared.option.Option.the-variants.{None}
+use Rattle.vec_map.specs.Worked.{Worked as Worked-row}
+use Rattle.small_index.specs.Standing.{Worked as Worked-index}
 use Rattle.book.specs.Maps.{find}
 use Rattle.book.specs.Book.{service, Book, new-book}
 use Rattle.book.specs.Refusals.{told-answer, accepted}
@@ -66,5 +68,6 @@ Two-segments =
     (answers calls small ≡ accepted ∷ accepted ∷ []) × (find 1 (run calls small .segments) ≡ None) × (count-in 2 (run calls small .segments) ≡ 1)
 
 -- all of them
+-- all seven: these, the worked row of pairs, and the worked small index
 abbrev pub Worked-trips : Type 0
-Worked-trips = Count-past × One-create × Not-live × Created-twice × Two-segments
+Worked-trips = Count-past × One-create × Not-live × Worked-row × Worked-index × Created-twice × Two-segments

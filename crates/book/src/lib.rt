@@ -14,7 +14,7 @@ pub fn cuts_agree()
     ensures { λ _. ⌜ Cuts-agree ⌝ }
 {}
 
-// Trips worked by hand come out as they should.
+// Seven cases worked by hand come out as they should: five trips, a row of pairs and a small index.
 pub fn worked_trips()
     ensures { λ _. ⌜ Worked-trips ⌝ }
 {}
