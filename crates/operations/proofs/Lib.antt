@@ -1,0 +1,9 @@
+pub mod Taking
+pub mod Keeping
+pub mod Counting
+pub mod Spans
+pub mod Segments
+pub mod Writing
+pub mod Noting
+pub mod Making
+pub mod Creating

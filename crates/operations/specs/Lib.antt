@@ -1,0 +1,5 @@
+pub mod Parts
+pub mod Inserts
+pub mod Fields
+pub mod Done
+pub mod Made
