@@ -4,7 +4,7 @@ use mathlib.Core.List.{List}
 use mathlib.Core.Bool.{Bool, true, false}
 use mathlib.Core.Logic.{_⊎_, inl, inr}
 use Prim.Native.Nat.{ℕ}
-use lib.ListN.{set}
+use lib.ListN.{set, length-set}
 use Rattle.std.specs.Runs.{nth}
 use Rattle.std.specs.declared.option.Option.the-variants.{Some, None}
 use Rattle.std.proofs.shelf.Tests.{cases-eq, both-ways}
@@ -23,6 +23,7 @@ module _ {A : Type 0} (unused : A → Bool) (meta metrics : A → Head) (Made : 
   -- nothing changed
   pub records-same : Records-kept unused meta metrics Made xs xs es es
   records-same = record {
+    long = refl;
     stays = λ id r e. e;
     fresh = λ id r n e. absurd (none-some (at es id) r n e);
     used = λ r u. u;
@@ -49,6 +50,7 @@ module _ {A : Type 0} (unused : A → Bool) (meta metrics : A → Head) (Made : 
 
     pub records-set : Records-kept unused meta metrics Made xs (set xs r x′) es es′
     records-set = record {
+      long = length-set xs r x′;
       stays = λ q n e. elim (cases-eq q id) [
         | inl same ↦ ap (at es′) same ∙ own-stays n (ap (at es) (sym same) ∙ e)
         | inr ne ↦ p .there q ne ∙ e

@@ -5,6 +5,7 @@ use mathlib.Core.List.{List}
 use mathlib.Core.Bool.{Bool, true, false, not}
 use mathlib.Core.Logic.{_⊎_}
 use Prim.Native.Nat.{ℕ, _<_}
+use lib.ListN.{length}
 use Rattle.std.specs.Runs.{nth}
 use Rattle.std.specs.declared.option.Option.{Option}
 use Rattle.std.specs.declared.option.Option.the-variants.{Some, None}
@@ -42,8 +43,10 @@ abbrev pub Rows-moved : (Made : ℕ → Type 0) → List Entry → ℕ → (text
 Rows-moved Made es r t n t′ n′ =
     (Row-moved t t′ × Row-moved n n′) ⊎ ((id : ℕ) × (at es id ≡ Some r) × Made id × (t′ .deduped ≡ false) × (n′ .deduped ≡ false))
 
--- every id keeps its record, a new one has a record that was in no use, none falls out of use, and what becomes of the marks
+-- the table is as long, every id keeps its record, a new one has a record that was in no use, none falls out of use, and what
+-- becomes of the marks
 pub record Records-kept {A : Type 0} (unused : A → Bool) (meta metrics : A → Head) (Made : ℕ → Type 0) (xs xs′ : List A) (es es′ : List Entry) : Type 0 where
+  pub long : length xs′ ≡ length xs
   pub stays : (id r : ℕ) → at es id ≡ Some r → at es′ id ≡ Some r
   pub fresh : (id r : ℕ) → at es id ≡ None → at es′ id ≡ Some r → Unused unused xs r
   pub used : (r : ℕ) → Unused unused xs′ r → Unused unused xs r

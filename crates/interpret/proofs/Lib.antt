@@ -1,0 +1,4 @@
+pub mod Reading
+pub mod Playing
+pub mod Following
+pub mod Creations

@@ -1,0 +1,3 @@
+pub mod Attributes
+pub mod Creation
+pub mod Played
