@@ -5,6 +5,7 @@ ghost use lib.ListN.{length};
 ghost use Rattle.std.specs.Orderings.{Decides};
 ghost use Rattle.tables.specs.InOrder.{InOrder, Lengths, Others-in-order, Sized};
 ghost use Rattle.tables.specs.Lent.{passed};
+ghost use Rattle.tables.specs.Store.{store};
 ghost use Rattle.tables.specs.Shows.{Shows-a-book};
 use crate::record::SegmentRecord;
 use crate::record::SpanRecord;
@@ -12,6 +13,7 @@ use crate::record::kept_in;
 use crate::record::within;
 use crate::segment::Segment;
 use crate::settings::Settings;
+use crate::span::Span;
 use crate::tables::Tables;
 use index::Index;
 use texts::Text;
@@ -95,6 +97,54 @@ pub fn tables_in_order<T: Text, S: Index, G: Index>(
         return false;
     }
     if !kept_in(tables.spans, by_id) {
+        return false;
+    }
+    kept_in(segments, by_segment)
+}
+
+// The same question over tables that a call has taken apart.
+pub fn in_order<T: Text, S: Index, G: Index>(
+    spans: &[Span<T>],
+    span_meta: &[(T, T)],
+    span_metrics: &[(T, u64)],
+    segments: &[Segment<T>],
+    segment_meta: &[(T, T)],
+    segment_metrics: &[(T, u64)],
+    strings: &[Option<T>],
+    defaults: &[(T, T)],
+    settings: &Settings<T>,
+    by_id: &S,
+    by_segment: &G,
+) -> bool
+    ensures { λ r. ⌜ Decides r (InOrder (store (now (spans .entry)) (now («span_meta» .entry)) (now («span_metrics» .entry)) (now (segments .entry)) (now («segment_meta» .entry)) (now («segment_metrics» .entry)) (now (strings .entry)) (now (defaults .entry)) (now (settings .entry)) (S·Index .held (now («by_id» .entry))) (S·Index .room (now («by_id» .entry))) (G·Index .held (now («by_segment» .entry))) (G·Index .room (now («by_segment» .entry))))) ⌝ }
+{
+    if !lengths_allowed(
+        4096,
+        99,
+        54,
+        spans.len(),
+        span_meta.len(),
+        span_metrics.len(),
+        by_id.capacity(),
+    ) {
+        return false;
+    }
+    let room = by_segment.capacity();
+    if !lengths_allowed(
+        256,
+        32,
+        16,
+        segments.len(),
+        segment_meta.len(),
+        segment_metrics.len(),
+        room,
+    ) {
+        return false;
+    }
+    if !others_allowed(strings.len(), defaults.len(), settings.defaults) {
+        return false;
+    }
+    if !kept_in(spans, by_id) {
         return false;
     }
     kept_in(segments, by_segment)
