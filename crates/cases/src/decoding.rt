@@ -1,6 +1,6 @@
 // Change buffers at their limits: each opcode's shortest operation, and a byte less.
 use decode::listing::{Ending, Listing};
-use hex::read::read_hex;
+use hex_text::read::read_hex;
 use std::alloc::{AllocError, Global};
 use std::process::Abort;
 use std::test::Fail;

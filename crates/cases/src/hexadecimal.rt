@@ -1,6 +1,6 @@
 // Hexadecimal text at its limits.
-use hex::position::Position;
-use hex::read::read_hex;
+use hex_text::position::Position;
+use hex_text::read::read_hex;
 use std::alloc::Global;
 use std::process::Abort;
 use std::test::Fail;

@@ -69,9 +69,9 @@ absent-at es k once n i h e = none-some (at es k) _ n (at_place es i k once h e)
 -- taking out an id that is not held changes nothing
 pub unheld : (es : List Entry) (k : ℕ) → at es k ≡ None → (q : ℕ) → at es q ≡ update eqb (at es) k None q
 unheld es k n q =
-    elim (cases_eq q k) [
-      | inl x ↦ ap (at es) x ∙ n ∙ sym (rw (eq-eqb q k x) refl)
-      | inr ne ↦ sym (rw (ne_eqb q k ne) refl)
+    elim (cases_eq k q) [
+      | inl x ↦ ap (at es) (sym x) ∙ n ∙ sym (rw (eq-eqb k q x) refl)
+      | inr ne ↦ sym (rw (ne_eqb k q ne) refl)
     ]
 
 -- ---- no id twice, one entry at a time

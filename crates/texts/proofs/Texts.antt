@@ -4,7 +4,9 @@ use Rattle.std.specs.Str.{bytes_eq}
 use Rattle.std.specs.List.{IsDistinct}
 use Rattle.std.proofs.ByRecursion.{All-get_or}
 use Rattle.std.proofs.lemmas.Slice.Eq.{bytes_eq-Decides}
-use Rattle.std.proofs.lemmas.Map.Invariant.{distinct-from-test}
+use Rattle.std.specs.Cmp.{IsEquivalence}
+use Rattle.std.proofs.lemmas.Cmp.{nat_list_eq_equiv}
+use Rattle.std.proofs.lemmas.Map.Made.{IsDistinct-from_count}
 use Rattle.std.proofs.lemmas.Bool.{cases_lt}
 use Rattle.texts.specs.Words.{among, fixed, fixed_words, listed_words}
 
@@ -59,7 +61,7 @@ differ ws d m n h k e =
 -- the list of words has no word twice: one computed test
 pub number_is : (m n : ℕ) → m < 18 → n < 18 → get_or listed_words m [] ≡ get_or listed_words n [] → m ≡ n
 number_is m n h k e =
-    let d = distinct-from-test bytes_eq listed_words tt in
+    let d = IsDistinct-from_count nat_list_eq_equiv listed_words refl in
     ⊎_elim
     (λ l. absurd (differ listed_words d m n l k e))
     (λ l. ⊎_elim (λ g. absurd (differ listed_words d n m g h (sym e))) (λ g. omega arith) (cases_lt n m))

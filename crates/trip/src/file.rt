@@ -1,8 +1,8 @@
 // One file: its change buffer read whole, and then printed.
 use decode::error::DecodeError;
 use decode::listing::{Ending, Listing};
-use hex::error::HexError;
-use hex::read::read_hex;
+use hex_text::error::HexError;
+use hex_text::read::read_hex;
 use std::{fmt, fs, io};
 
 // Why a file's operations are not printed.

@@ -22,9 +22,9 @@ loop-i-preserved g c =
             omega (arith, w.ids-is, v.1, many-more-some id-of i w.in-Some.id w.in-Some.is),
             omega (arith, w.ids-is, v.2),
           )
-      | goal.in-default w ↦ (
-        found-more es id-of i v.0 (λ k e. absurd (none-some (id-of i) k w.in-default.is e)),
-        omega (arith, w.ids-is, v.1, many-more-none id-of i w.in-default.is),
+      | goal.in_default w ↦ (
+        found-more es id-of i v.0 (λ k e. absurd (none-some (id-of i) k w.in_default.is e)),
+        omega (arith, w.ids-is, v.1, many-more-none id-of i w.in_default.is),
         omega (arith, w.ids-is, v.2),
       )
     ]

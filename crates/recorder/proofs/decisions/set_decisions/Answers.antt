@@ -14,11 +14,11 @@ returns-then-not-tables_in_order g c =
       after = refl;
     }
 
-pub returns-in-default : goal.returns-in-default
-returns-in-default g c =
+pub returns-in_default : goal.returns-in_default
+returns-in_default g c =
     record {
       call =
-          unsampled c.args.rule c.args.limit c.args.agent g.T.Text.bytes _ c.args.id (c.tables_in_order.ensures.0 c.if-not-tables_in_order.false) (sym c.in-default.ensures);
+          unsampled c.args.rule c.args.limit c.args.agent g.T.Text.bytes _ c.args.id (c.tables_in_order.ensures.0 c.if-not-tables_in_order.false) (sym c.in_default.ensures);
       after = refl;
     }
 

@@ -56,8 +56,8 @@ loop-i-preserved g c =
             omega (arith, w.used-is, v.2, many-more-some (key_at key xs) i id is),
             omega (arith, w.used-is, v.3),
           )
-      | goal.in-default w ↦
-          let none : key_at key xs i ≡ None = own ∙ sym w.in-default.ensures in (
+      | goal.in_default w ↦
+          let none : key_at key xs i ≡ None = own ∙ sym w.in_default.ensures in (
             (λ r y lt e. each r lt y e),
             found-more es (key_at key xs) i v.1 (λ k e. absurd (none-some (key_at key xs i) k none e)),
             omega (arith, w.used-is, v.2, many-more-none (key_at key xs) i none),

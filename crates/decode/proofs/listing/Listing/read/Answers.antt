@@ -43,7 +43,7 @@ returns c =
       follow = inv.0;
       ends = (omega (arith, inv.1), omega (arith, long, inv.2));
     } in
-    record { cases = subst (λ xs. Listed xs listing) same listed; bound = λ k. (c.type-inv.bytes k).fits }
+    record { cases = subst (λ xs. Listed xs listing) same listed; bound = λ k. c.type_inv.bytes k }
 
 pub returns-in-Refused : goal.returns-in-Refused
 returns-in-Refused c =
@@ -59,4 +59,4 @@ returns-in-Refused c =
       follow = inv.0;
       ends = (omega (arith, inv.1), (c.read_operation.new.index, subst (Faults b c.loop.index c.read_operation.new.index) c.in-Refused.is c.in-Err.ensures.cases));
     } in
-    record { cases = subst (λ xs. Listed xs listing) same listed; bound = λ k. (c.type-inv.bytes k).fits }
+    record { cases = subst (λ xs. Listed xs listing) same listed; bound = λ k. c.type_inv.bytes k }

@@ -20,9 +20,9 @@ returns-in-At c =
     sym (spot_at (vec_items s.places) c.args.id c.in-At.field-0 c.in-At.number s.alone
     (subst (λ ps. Spotted ps c.args.id (At c.in-At.field-0 c.in-At.number)) c.as_slice.ensures.value c.in-At.ensures))
 
-pub returns-in-default : goal.returns-in-default
-returns-in-default c =
+pub returns-in_default : goal.returns-in_default
+returns-in_default c =
     let s = c.args.self.now in
     sym (kept-missing (vec_items s.places) c.args.id
     (subst (λ ps. Missing ps c.args.id) c.as_slice.ensures.value
-    (no_spot c.as_slice.result.now c.args.id c.seek.result c.seek.ensures c.in-default.not-At)))
+    (no_spot c.as_slice.result.now c.args.id c.seek.result c.seek.ensures c.in_default.not-At)))

@@ -74,12 +74,12 @@ returns-in-At c =
     let out = gone (vec_items s.places) c.as_slice.result.now c.as_mut_slice.result.now ws _ c.in-At.i c.args.id c.in-At.former c.as_slice.ensures.value c.as_mut_slice.ensures.value is c.in-At.ensures c.take_out.ensures.cases in
     record { cases = out; same = λ n. absurd (none-some _ _ n refl); capacity = refl }
 
-pub returns-in-default : goal.returns-in-default
-returns-in-default c =
+pub returns-in_default : goal.returns-in_default
+returns-in_default c =
     let s = c.args.self.now in
     let ps = vec_items s.places in
     let none : at (kept ps) c.args.id ≡ None =
     kept-missing ps c.args.id
     (subst (λ ps. Missing ps c.args.id) c.as_slice.ensures.value
-    (no_spot c.as_slice.result.now c.args.id c.seek.result c.seek.ensures c.in-default.not-At)) in
+    (no_spot c.as_slice.result.now c.args.id c.seek.result c.seek.ensures c.in_default.not-At)) in
     record { cases = (sym none, unheld (kept ps) c.args.id none, add-zero (length (kept ps))); same = λ _. refl; capacity = refl }

@@ -3,20 +3,20 @@ use Rattle.operations.proofs.Writing.{rows_within}
 use Rattle.operations.proofs.Creating.{ids-within, seats-within, record_within, ids-roomy, seats-roomy, done_no_record, done_no_seat, created}
 use Rattle.operations.proofs.inner.create.create.Goals as goal
 
-pub returns-in-default : goal.returns-in-default
-returns-in-default g c = record {
+pub returns-in_default : goal.returns-in_default
+returns-in_default g c = record {
   done = λ m ws o gives.
-      done_no_record _ o (g.met.S.Index.once c.args.by_id.now) (g.met.G.Index.once c.args.by_segment.now) g.T.Text.bytes c.args.id c.args.segment ws c.in-default.ensures;
+      done_no_record _ o (g.met.S.Index.once c.args.by_id.now) (g.met.G.Index.once c.args.by_segment.now) g.T.Text.bytes c.args.id c.args.segment ws c.in_default.ensures;
 }
 
 pub seat_for-requires : goal.seat_for-requires
 seat_for-requires g c = seats-within _ c.requires.order.1
 
-pub returns-in-default-seat_for : goal.returns-in-default-seat_for
-returns-in-default-seat_for g c = record {
+pub returns-in_default-seat_for : goal.returns-in_default-seat_for
+returns-in_default-seat_for g c = record {
   done = λ m ws o gives.
       done_no_seat _ o (g.met.S.Index.once c.args.by_id.now) (g.met.G.Index.once c.args.by_segment.now) g.T.Text.bytes c.args.id c.args.segment ws
-      c.in-Some.number c.in-Some.ensures c.in-default-seat_for.ensures;
+      c.in-Some.number c.in-Some.ensures c.in_default-seat_for.ensures;
 }
 
 pub make_span-requires : goal.make_span-requires

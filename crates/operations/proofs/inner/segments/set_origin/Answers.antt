@@ -11,5 +11,5 @@ returns-in-Some g c = record {
   done = λ m o. c.origin_at.ensures.done (with_seats (g.G.Index.held c.args.by_segment.now) m) o (sym c.in-Some.ensures);
 }
 
-pub returns-in-default : goal.returns-in-default
-returns-in-default g c = record { done = λ m o. done_dropped g.T.Text.bytes _ c.args.segment _ o (sym c.in-default.ensures) }
+pub returns-in_default : goal.returns-in_default
+returns-in_default g c = record { done = λ m o. done_dropped g.T.Text.bytes _ c.args.segment _ o (sym c.in_default.ensures) }

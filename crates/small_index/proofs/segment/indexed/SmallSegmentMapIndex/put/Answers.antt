@@ -43,7 +43,7 @@ returns-then-is_full c =
     let f = c.in-Some.first in
     record {
       cases = (
-        miss s f c.in-Some.is c.args.id c.if-first-id.false c.in-default-place.ensures,
+        miss s f c.in-Some.is c.args.id c.if-first-id.false c.in_default-place.ensures,
         omega (arith, full s f c.in-Some.is, eqb-true s.overflow.len 255 (sym c.is_full.ensures ∙ c.if-is_full.true)),
       );
       same = refl;
@@ -57,7 +57,7 @@ invariant-of-self-2 c =
     let e : Entry = record { id = c.args.id; number = c.args.number } in
     let a = c.push.ensures in
     let lt : s.overflow.len < 255 = omega (arith, s.short, eqb-false s.overflow.len 255 (sym c.is_full.ensures ∙ c.if-is_full.false)) in
-    let is = put-end s c.in-Some.first c.in-Some.is e c.if-first-id.false c.in-default-place.ensures c.push.new.self.entries c.push.new.self.len lt a.items a.len in (
+    let is = put-end s c.in-Some.first c.in-Some.is e c.if-first-id.false c.in_default-place.ensures c.push.new.self.entries c.push.new.self.len lt a.items a.len in (
       ap length a.items ∙ length-set s.overflow.entries s.overflow.len e ∙ s.sized,
       (omega (arith, lt, a.len), (λ n. absurd (none-some _ _ n c.in-Some.is), (puts-once (stood s) _ s.once e is, tt))),
     )
@@ -68,6 +68,6 @@ returns c =
     let e : Entry = record { id = c.args.id; number = c.args.number } in
     let a = c.push.ensures in
     let lt : s.overflow.len < 255 = omega (arith, s.short, eqb-false s.overflow.len 255 (sym c.is_full.ensures ∙ c.if-is_full.false)) in
-    let is = put-end s c.in-Some.first c.in-Some.is e c.if-first-id.false c.in-default-place.ensures c.push.new.self.entries c.push.new.self.len lt a.items a.len in
-    let former = sym (miss s c.in-Some.first c.in-Some.is c.args.id c.if-first-id.false c.in-default-place.ensures) in
+    let is = put-end s c.in-Some.first c.in-Some.is e c.if-first-id.false c.in_default-place.ensures c.push.new.self.entries c.push.new.self.len lt a.items a.len in
+    let former = sym (miss s c.in-Some.first c.in-Some.is c.args.id c.if-first-id.false c.in_default-place.ensures) in
     record { cases = puts_means (stood s) _ s.once e None is former; same = tt; capacity = refl; places = is }

@@ -1,7 +1,7 @@
 // What can be wrong with a hexadecimal text, in plain words.
 ghost use Rattle.std.specs.Prelude.{◌≡◌, Some};
-ghost use Rattle.hex.specs.declared.error.HexError.TheVariants.{Memory as no-memory};
-ghost use Rattle.hex.specs.Places.{said};
+ghost use Rattle.hex_text.specs.declared.error.HexError.TheVariants.{Memory as no-memory};
+ghost use Rattle.hex_text.specs.Places.{said};
 
 use crate::position::Position;
 use std::alloc::{AllocError, AllocFailed};

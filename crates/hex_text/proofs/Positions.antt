@@ -4,8 +4,8 @@ use Rattle.std.specs.List.{suffix_len}
 use Rattle.std.proofs.lemmas.List.{get_or-take, take_all}
 use Rattle.std.proofs.lemmas.List.Sums.{sum_by_more, suffix_len-take_yes, suffix_len-take_no, count_by-le-length, suffix_len-le-length}
 use Rattle.std.proofs.lemmas.Bool.{cases_Bool, cases_lt}
-use Rattle.hex.specs.declared.position.Position.{Position}
-use Rattle.hex.specs.Places.{newline, next, place}
+use Rattle.hex_text.specs.declared.position.Position.{Position}
+use Rattle.hex_text.specs.Places.{newline, next, place}
 
 abbrev inside : ℕ → Bool
 inside b = not (newline b)

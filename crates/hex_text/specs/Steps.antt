@@ -1,10 +1,10 @@
 -- One step of a reader: how it goes on with the rest of a text, and what it knows there.
 use Rattle.std.specs.Prelude.{◌≡◌, ℕ, ◌+◌, ◌<◌, List, length}
-use Rattle.hex.specs.declared.read.Mode.{Mode}
-use Rattle.hex.specs.declared.read.Mode.TheVariants.{Comment, First, Outside}
-use Rattle.hex.specs.declared.read.Step.{Step}
-use Rattle.hex.specs.declared.read.Step.TheVariants.{Byte, Odd, To, Unknown}
-use Rattle.hex.specs.Texts.{Saying, before, odd, reading, unknown}
+use Rattle.hex_text.specs.declared.read.Mode.{Mode}
+use Rattle.hex_text.specs.declared.read.Mode.TheVariants.{Comment, First, Outside}
+use Rattle.hex_text.specs.declared.read.Step.{Step}
+use Rattle.hex_text.specs.declared.read.Step.TheVariants.{Byte, Odd, To, Unknown}
+use Rattle.hex_text.specs.Texts.{Saying, before, odd, reading, unknown}
 
 -- what the text from a byte on says after a step there
 abbrev pub goes : Step → ℕ → List ℕ → Saying

@@ -4,17 +4,17 @@ use Rattle.std.specs.declared.alloc.Global.{Global}
 use Rattle.std.proofs.lemmas.List.{drop_more}
 use Rattle.std.proofs.lemmas.Bool.{cases_Bool}
 use Rattle.std.proofs.lemmas.Bool.Decides.{nat_tests}
-use Rattle.hex.specs.declared.error.HexError.{HexError}
-use Rattle.hex.specs.declared.error.HexError.TheVariants.{Memory, Odd, Unknown}
-use Rattle.hex.specs.declared.read.Mark.{Mark}
-use Rattle.hex.specs.declared.read.Mark.TheVariants.{Blank, Digit, Hash, Newline, Other}
-use Rattle.hex.specs.declared.read.Mode.{Mode}
-use Rattle.hex.specs.declared.read.Mode.TheVariants.{Comment, First, Outside}
-use Rattle.hex.specs.declared.read.Step.{Step}
-use Rattle.hex.specs.Grammar.{Bytes, Gives, OneLine, Says, blank, byte, comment, digit, nothing, remark, written}
-use Rattle.hex.specs.Places.{newline}
-use Rattle.hex.specs.Steps.{goes}
-use Rattle.hex.specs.Texts.{Reads, Saying, before, bytes, mark, odd, reading, unknown}
+use Rattle.hex_text.specs.declared.error.HexError.{HexError}
+use Rattle.hex_text.specs.declared.error.HexError.TheVariants.{Memory, Odd, Unknown}
+use Rattle.hex_text.specs.declared.read.Mark.{Mark}
+use Rattle.hex_text.specs.declared.read.Mark.TheVariants.{Blank, Digit, Hash, Newline, Other}
+use Rattle.hex_text.specs.declared.read.Mode.{Mode}
+use Rattle.hex_text.specs.declared.read.Mode.TheVariants.{Comment, First, Outside}
+use Rattle.hex_text.specs.declared.read.Step.{Step}
+use Rattle.hex_text.specs.Grammar.{Bytes, Gives, OneLine, Says, blank, byte, comment, digit, nothing, remark, written}
+use Rattle.hex_text.specs.Places.{newline}
+use Rattle.hex_text.specs.Steps.{goes}
+use Rattle.hex_text.specs.Texts.{Reads, Saying, before, bytes, mark, odd, reading, unknown}
 
 -- bytes in front of what a text says
 abbrev pub ahead : List ℕ → Saying → Saying

@@ -1,7 +1,7 @@
 use Rattle.std.proofs.Common.{sym}
-use Rattle.hex.specs.Texts.{reading}
-use Rattle.hex.proofs.Readings.{newline-mark}
-use Rattle.hex.proofs.read.Mode.step.Goals as goal
+use Rattle.hex_text.specs.Texts.{reading}
+use Rattle.hex_text.proofs.Readings.{newline-mark}
+use Rattle.hex_text.proofs.read.Mode.step.Goals as goal
 
 pub returns-in-Comment-Newline : goal.returns-in-Comment-Newline
 returns-in-Comment-Newline c =

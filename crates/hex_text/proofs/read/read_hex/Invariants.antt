@@ -1,9 +1,9 @@
 use Rattle.std.proofs.Common.{◌≡◌, ◌≤◌, drop, vec_items}
-use Rattle.hex.specs.declared.read.Mode.TheVariants.{Outside}
-use Rattle.hex.specs.Steps.{Small, digits}
-use Rattle.hex.specs.Texts.{reading}
-use Rattle.hex.proofs.Readings.{ahead}
-use Rattle.hex.proofs.read.read_hex.Given as goal
+use Rattle.hex_text.specs.declared.read.Mode.TheVariants.{Outside}
+use Rattle.hex_text.specs.Steps.{Small, digits}
+use Rattle.hex_text.specs.Texts.{reading}
+use Rattle.hex_text.proofs.Readings.{ahead}
+use Rattle.hex_text.proofs.read.read_hex.Given as goal
 
 abbrev pub invariant-loop-offset : goal.invariant-loop-offset
 invariant-loop-offset l =

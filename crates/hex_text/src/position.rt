@@ -1,6 +1,6 @@
 // Places in a text as a person counts them: lines and columns, both from 1.
 ghost use Rattle.std.specs.Prelude.{◌≡◌, ◌+◌, ◌^◌, ◌<◌, Some};
-ghost use Rattle.hex.specs.Places.{next, place, place_words};
+ghost use Rattle.hex_text.specs.Places.{next, place, place_words};
 
 use std::fmt;
 

@@ -1,7 +1,7 @@
 use Rattle.std.proofs.Common.{◌≡◌, ◌-◌, min, length, sym, ap, ◌∙◌, arith, length-take}
-use Rattle.hex.specs.Places.{next}
-use Rattle.hex.proofs.Positions.{place_bound, place_end, place-more}
-use Rattle.hex.proofs.position.Position.of.Goals as goal
+use Rattle.hex_text.specs.Places.{next}
+use Rattle.hex_text.proofs.Positions.{place_bound, place_end, place-more}
+use Rattle.hex_text.proofs.position.Position.of.Goals as goal
 
 pub after-position-requires : goal.after-position-requires
 after-position-requires c =

@@ -2,7 +2,7 @@ use Rattle.std.proofs.Common.{◌≡◌, ◌<◌, true, false, [], ◌∷◌, sy
 use lib.Utf8.{encode}
 use Rattle.std.specs.Char.{is_ascii_graphic}
 use Rattle.std.proofs.lemmas.Str.{encode_ascii}
-use Rattle.hex.proofs.error.HexErrorDisplay.fmt.Goals as goal
+use Rattle.hex_text.proofs.error.HexErrorDisplay.fmt.Goals as goal
 
 pub returns-in-Odd-clause-writes : goal.returns-in-Odd-clause-writes
 returns-in-Odd-clause-writes g c = rw c.in-Odd.is c.write.ensures.writes

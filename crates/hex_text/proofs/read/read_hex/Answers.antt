@@ -1,17 +1,17 @@
 use Rattle.std.proofs.Common.{◌≡◌, ℕ, ◌+◌, ◌-◌, ◌≤◌, List, [], ◌∷◌, ◌++◌, length, get_or, drop, Ok, Err, vec_items, Result, Vec, sym, refl, ap, ◌∙◌, subst, ⊎_elim, arith, length-drop, rules}
 use Rattle.std.proofs.lemmas.List.{drop_all}
 use Rattle.std.specs.declared.alloc.Global.{Global}
-use Rattle.hex.specs.declared.error.HexError.{HexError}
-use Rattle.hex.specs.declared.error.HexError.TheVariants.{Memory, Odd, Unknown}
-use Rattle.hex.specs.declared.read.Mode.{Mode}
-use Rattle.hex.specs.declared.read.Mode.TheVariants.{Comment, First, Outside}
-use Rattle.hex.specs.declared.read.Step.TheVariants as steps
-use Rattle.hex.specs.Steps.{Small, digits}
-use Rattle.hex.specs.Places.{place}
-use Rattle.hex.specs.Texts.{Reads, Saying, before, reading}
-use Rattle.hex.proofs.Readings.{ahead, ahead_push, ahead-bytes, ahead-odd, ahead-unknown, gives_back, gives-meant, turned}
-use Rattle.hex.proofs.read.read_hex.Goals as goal
-use Rattle.hex.proofs.read.read_hex.Goals.{in-To, in-Byte+in-ok-push}
+use Rattle.hex_text.specs.declared.error.HexError.{HexError}
+use Rattle.hex_text.specs.declared.error.HexError.TheVariants.{Memory, Odd, Unknown}
+use Rattle.hex_text.specs.declared.read.Mode.{Mode}
+use Rattle.hex_text.specs.declared.read.Mode.TheVariants.{Comment, First, Outside}
+use Rattle.hex_text.specs.declared.read.Step.TheVariants as steps
+use Rattle.hex_text.specs.Steps.{Small, digits}
+use Rattle.hex_text.specs.Places.{place}
+use Rattle.hex_text.specs.Texts.{Reads, Saying, before, reading}
+use Rattle.hex_text.proofs.Readings.{ahead, ahead_push, ahead-bytes, ahead-odd, ahead-unknown, gives_back, gives-meant, turned}
+use Rattle.hex_text.proofs.read.read_hex.Goals as goal
+use Rattle.hex_text.proofs.read.read_hex.Goals.{in-To, in-Byte+in-ok-push}
 
 abbrev Answer : Type 0
 Answer = Result (Vec ℕ Global) HexError

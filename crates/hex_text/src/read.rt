@@ -1,9 +1,9 @@
 // Reading hexadecimal text: blanks are free between bytes, `#` starts a comment to the line's end,
 // and a byte is two digits of either case that stand together.
 ghost use Rattle.std.specs.Prelude.{◌≡◌, ℕ, List, ◌∷◌};
-ghost use Rattle.hex.specs.Grammar.{Bytes, Gives, Says, written};
-ghost use Rattle.hex.specs.Steps.{Small, Sound, goes};
-ghost use Rattle.hex.specs.Texts.{Reads, mark, reading};
+ghost use Rattle.hex_text.specs.Grammar.{Bytes, Gives, Says, written};
+ghost use Rattle.hex_text.specs.Steps.{Small, Sound, goes};
+ghost use Rattle.hex_text.specs.Texts.{Reads, mark, reading};
 
 use crate::error::HexError;
 use crate::position::Position;

@@ -1,11 +1,11 @@
 -- The texts that a person may write for some bytes, and the plain one.
 use Rattle.std.specs.Prelude.{◌≡◌, ℕ, ◌+◌, ◌*◌, ◌/◌, ◌%◌, ◌<◌, false, cond, ◌⊎◌, List, [], ◌∷◌, ◌++◌, Ok, Err, vec_items, Result, Vec, nat_lt}
 use Rattle.std.specs.declared.alloc.Global.{Global}
-use Rattle.hex.specs.declared.error.HexError.{HexError}
-use Rattle.hex.specs.declared.error.HexError.TheVariants.{Memory}
-use Rattle.hex.specs.declared.read.Mark.TheVariants.{Blank, Digit, Newline}
-use Rattle.hex.specs.Places.{newline}
-use Rattle.hex.specs.Texts.{mark}
+use Rattle.hex_text.specs.declared.error.HexError.{HexError}
+use Rattle.hex_text.specs.declared.error.HexError.TheVariants.{Memory}
+use Rattle.hex_text.specs.declared.read.Mark.TheVariants.{Blank, Digit, Newline}
+use Rattle.hex_text.specs.Places.{newline}
+use Rattle.hex_text.specs.Texts.{mark}
 
 -- words without a newline
 abbrev pub OneLine : List ℕ → Type 0

@@ -1,13 +1,13 @@
 -- Hexadecimal text: the bytes that it says, or what is wrong with it and where.
 use Rattle.std.specs.Prelude.{◌≡◌, ℕ, ◌+◌, ◌-◌, ◌*◌, Bool, cond, ◌&&◌, ◌||◌, List, [], ◌∷◌, length, Ok, Err, vec_items, Result, Vec, ◌==◌, nat_le}
 use Rattle.std.specs.declared.alloc.Global.{Global}
-use Rattle.hex.specs.declared.error.HexError.{HexError}
-use Rattle.hex.specs.declared.error.HexError.TheVariants.{Memory, Odd, Unknown}
-use Rattle.hex.specs.declared.read.Mark.{Mark}
-use Rattle.hex.specs.declared.read.Mark.TheVariants.{Blank, Digit, Hash, Newline, Other}
-use Rattle.hex.specs.declared.read.Mode.{Mode}
-use Rattle.hex.specs.declared.read.Mode.TheVariants.{Comment, First, Outside}
-use Rattle.hex.specs.Places.{newline, place}
+use Rattle.hex_text.specs.declared.error.HexError.{HexError}
+use Rattle.hex_text.specs.declared.error.HexError.TheVariants.{Memory, Odd, Unknown}
+use Rattle.hex_text.specs.declared.read.Mark.{Mark}
+use Rattle.hex_text.specs.declared.read.Mark.TheVariants.{Blank, Digit, Hash, Newline, Other}
+use Rattle.hex_text.specs.declared.read.Mode.{Mode}
+use Rattle.hex_text.specs.declared.read.Mode.TheVariants.{Comment, First, Outside}
+use Rattle.hex_text.specs.Places.{newline, place}
 
 -- b is one of the bytes from low to high
 abbrev among : ℕ → ℕ → ℕ → Bool

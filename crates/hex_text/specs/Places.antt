@@ -2,9 +2,9 @@
 use Rattle.std.specs.Prelude.{ℕ, ◌+◌, Bool, cond, not, List, ◌∷◌, ◌++◌, take, codes, decimal, count_by, ◌==◌}
 use Rattle.std.specs.Char.{is_ascii_graphic}
 use Rattle.std.specs.List.{suffix_len}
-use Rattle.hex.specs.declared.position.Position.{Position}
-use Rattle.hex.specs.declared.error.HexError.{HexError}
-use Rattle.hex.specs.declared.error.HexError.TheVariants.{Memory, Odd, Unknown}
+use Rattle.hex_text.specs.declared.position.Position.{Position}
+use Rattle.hex_text.specs.declared.error.HexError.{HexError}
+use Rattle.hex_text.specs.declared.error.HexError.TheVariants.{Memory, Odd, Unknown}
 
 -- a byte that ends a line
 abbrev pub newline : ℕ → Bool
