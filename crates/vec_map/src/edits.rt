@@ -42,16 +42,16 @@ impl<'a, K: Key, V: Copy> VecMap<'a, K, V> {
     // answers as before, and no key stands twice.
     pub fn dedup(&mut self)
         ensures place { self.new.pairs.ghost_name ≡ self.old.pairs.ghost_name }
-        ensures row { row_of self.new ≡ dedup_row alike (row_of self.old) }
-        ensures lookups { (k : K) → last_value alike k (items (row_of self.new)) ≡ last_value alike k (items (row_of self.old)) }
-        ensures once { (row_of self.old).deduped ≡ false → NoRepeats alike (items (row_of self.new)) }
+        ensures row { row_of self.new ≡ dedup_row K.alike (row_of self.old) }
+        ensures lookups { (k : K) → last_value K.alike k (items (row_of self.new)) ≡ last_value K.alike k (items (row_of self.old)) }
+        ensures once { (row_of self.old).deduped ≡ false → NoRepeats K.alike (items (row_of self.new)) }
     {
         self.take_repeats_out();
     }
 
     fn take_repeats_out(&mut self)
         ensures place { self.new.pairs.ghost_name ≡ self.old.pairs.ghost_name }
-        ensures row { row_of self.new ≡ dedup_row alike (row_of self.old) }
+        ensures row { row_of self.new ≡ dedup_row K.alike (row_of self.old) }
     {
         if self.deduped {
             return;

@@ -70,7 +70,7 @@ impl<'a, K: Key, V: Copy> VecMap<'a, K, V> {
 
     // The value of the last pair with the key.
     pub fn get(&self, key: &K) -> Option<&V>
-        ensures { option_map (λ x. x.now) result ≡ last_value alike key.now (items (row_of self.now)) }
+        ensures { option_map (λ x. x.now) result ≡ last_value K.alike key.now (items (row_of self.now)) }
     {
         row::value_of(self.pairs, self.len, key)
     }

@@ -26,7 +26,7 @@ pub fn put<K: Key, V: Copy>(row: &mut [(K, V)], at: usize, pair: (K, V)) -> bool
 }
 
 pub fn value_of<'a, K: Key, V: Copy>(row: &'a [(K, V)], len: usize, key: &K) -> Option<&'a V>
-    ensures { option_map (λ x. x.now) result ≡ last_value alike key.now (take len row.now) }
+    ensures { option_map (λ x. x.now) result ≡ last_value K.alike key.now (take len row.now) }
 {
     let mut i = len.min(row.len());
     while i > 0 {
@@ -42,7 +42,7 @@ pub fn value_of<'a, K: Key, V: Copy>(row: &'a [(K, V)], len: usize, key: &K) -> 
 // Whether one of the first pairs of the row has the key of the other pair.
 fn has_key<K: Key, V: Copy>(row: &[(K, V)], count: usize, other: &(K, V)) -> bool
     requires { count ≤ length row.now }
-    ensures { result ≡ known alike other.now.0 (take count row.now) }
+    ensures { result ≡ known K.alike other.now.0 (take count row.now) }
 {
     for i in 0..count {
         let pair = row[i];
@@ -55,8 +55,8 @@ fn has_key<K: Key, V: Copy>(row: &[(K, V)], count: usize, other: &(K, V)) -> boo
 
 // Takes the repeats out of the first `len` pairs, and says how many are left.
 pub fn dedup<K: Key, V: Copy>(row: &mut [(K, V)], len: usize) -> usize
-    ensures count { result ≡ length (without_repeats alike (take len row.old)) }
-    ensures room { row.new ≡ deduped_room alike len row.old }
+    ensures count { result ≡ length (without_repeats K.alike (take len row.old)) }
+    ensures room { row.new ≡ deduped_room K.alike len row.old }
 {
     let end = len.min(row.len());
     let part = &mut row[0..end];
@@ -66,8 +66,8 @@ pub fn dedup<K: Key, V: Copy>(row: &mut [(K, V)], len: usize) -> usize
 
 fn keep_firsts<K: Key, V: Copy>(row: &mut [(K, V)], end: usize) -> usize
     requires { end ≤ length row.old }
-    ensures count { result ≡ length (firsts alike List.[] (take end row.old)) }
-    ensures room { row.new ≡ firsts alike List.[] (take end row.old) ++ drop (length (firsts alike List.[] (take end row.old))) row.old }
+    ensures count { result ≡ length (firsts K.alike List.[] (take end row.old)) }
+    ensures room { row.new ≡ firsts K.alike List.[] (take end row.old) ++ drop (length (firsts K.alike List.[] (take end row.old))) row.old }
 {
     let mut count = 0;
     for i in 0..end {

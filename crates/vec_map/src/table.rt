@@ -25,7 +25,7 @@ pub fn insert_row<K: Key, V: Copy>(
 
 // The repeats of a row taken out.
 pub fn dedup_row<K: Key, V: Copy>(row: &mut [(K, V)], head: &mut Head)
-    ensures { headed row.new head.new ≡ dedup_row alike (headed row.old head.old) }
+    ensures { headed row.new head.new ≡ dedup_row K.alike (headed row.old head.old) }
 {
     let mut map = VecMap::new(row, *head);
     map.dedup();
@@ -64,8 +64,8 @@ pub fn insert_at<K: Key, V: Copy>(
 
 // The repeats of row `at` taken out; every other row stays as it is. Nothing where the row is not in the table.
 pub fn dedup_at<K: Key, V: Copy>(table: &mut [(K, V)], width: usize, at: usize, head: &mut Head)
-    ensures table { table.new ≡ changed (dedup_row alike) width at table.old head.old }
-    ensures row { headed (row width at table.new) head.new ≡ changed_row (dedup_row alike) width at table.old head.old }
+    ensures table { table.new ≡ changed (dedup_row K.alike) width at table.old head.old }
+    ensures row { headed (row width at table.new) head.new ≡ changed_row (dedup_row K.alike) width at table.old head.old }
     ensures others { OthersStay width at table.old table.new }
 {
     if let Some(from) = row_start(width, at, table.len()) {
