@@ -1,6 +1,7 @@
 -- What a put and a removal mean, told by the places.
 use Rattle.std.proofs.Common.{◌≡◌, ℕ, suc, ◌+◌, ◌<◌, cond, eqb, List, [], ◌∷◌, ◌++◌, length, get_or, take, is_some, Some, None, Ok, Option, sym, refl, ap, ◌∙◌, subst, inl, inr, arith}
 use Rattle.std.specs.Map.{update}
+use Rattle.std.proofs.lemmas.Cmp.{nat_eq_equiv}
 use Rattle.std.proofs.lemmas.Map.{update_apart}
 use Rattle.std.proofs.lemmas.List.{take_more, take_all, length-take-le}
 use Rattle.std.proofs.lemmas.Bool.{cases_eq, eq-eqb, ne_eqb}
@@ -10,11 +11,11 @@ use Rattle.index.proofs.Entries.{none-some, at_here, at-later, once_nil, once_co
 use Rattle.small_index.specs.Standing.{puts, outs, last_first}
 
 update_same : (f : ℕ → Option ℕ) (k : ℕ) (w : Option ℕ) (q : ℕ) → q ≡ k → update eqb f k w q ≡ w
-update_same f k w q x = rw (eq-eqb q k x) refl
+update_same f k w q x = rw (eq-eqb k q (sym x)) refl
 
 -- ---- a put
 pub at-puts : (es : List Entry) (e : Entry) (q : ℕ) → at (puts es e) q ≡ update eqb (at es) e.id (Some e.number) q
-at-puts [] e q = refl
+at-puts [] e q = ap (λ t. cond t (Some e.number) None) (nat_eq_equiv.symm q e.id)
 at-puts (x ∷ es) e q =
     let w : Option ℕ = Some e.number in
     elim (cases_eq x.id e.id) [
@@ -28,7 +29,7 @@ at-puts (x ∷ es) e q =
           rw (ne_eqb x.id e.id ne)
           (elim (cases_eq q x.id) [
             | inl y ↦ at_here x (puts es e) q y ∙ sym (at_here x es q y) ∙ sym (update_apart (at (x ∷ es)) e.id w q (λ z. ne (sym y ∙ z)))
-            | inr ny ↦ at-later x (puts es e) q ny ∙ at-puts es e q ∙ ap (λ (o : Option ℕ). cond (eqb q e.id) w o) (sym (at-later x es q ny))
+            | inr ny ↦ at-later x (puts es e) q ny ∙ at-puts es e q ∙ ap (λ t. cond t w (at es q)) (nat_eq_equiv.symm e.id q) ∙ ap (λ (o : Option ℕ). cond (eqb q e.id) w o) (sym (at-later x es q ny)) ∙ ap (λ t. cond t w (at (x ∷ es) q)) (nat_eq_equiv.symm q e.id)
           ])
     ]
 
@@ -115,7 +116,7 @@ at-outs (x ∷ es) k o q =
           rw (ne_eqb x.id k ne)
           (elim (cases_eq q x.id) [
             | inl y ↦ at_here x (outs es k) q y ∙ sym (at_here x es q y) ∙ sym (update_apart (at (x ∷ es)) k None q (λ z. ne (sym y ∙ z)))
-            | inr ny ↦ at-later x (outs es k) q ny ∙ at-outs es k (once_tail x es o) q ∙ ap (λ (w : Option ℕ). cond (eqb q k) None w) (sym (at-later x es q ny))
+            | inr ny ↦ at-later x (outs es k) q ny ∙ at-outs es k (once_tail x es o) q ∙ ap (λ t. cond t None (at es q)) (nat_eq_equiv.symm k q) ∙ ap (λ (w : Option ℕ). cond (eqb q k) None w) (sym (at-later x es q ny)) ∙ ap (λ t. cond t None (at (x ∷ es) q)) (nat_eq_equiv.symm q k)
           ])
     ]
 

@@ -3,8 +3,7 @@ ghost use Rattle.std.specs.Prelude.{◌≡◌, ℕ, Some, None, Ok, OnErr, OnOk}
 ghost use Rattle.std.specs.List.{slice_get};
 ghost use Rattle.index.specs.Held.{Put, Removed};
 ghost use Rattle.small_index.specs.Standing.{puts, outs, last_first, Worked};
-ghost use Rattle.small_index.specs.Stood.{stood, listed};
-ghost use Rattle.std.proofs.Common.{rules, arith};
+ghost use Rattle.small_index.specs.Stood.{stood, listed, stood_fits};
 
 use super::SmallSegmentMap;
 use index::Index;
@@ -15,9 +14,9 @@ impl Index for SmallSegmentMap {
 
     ghost room = { λ _. 256 };
 
-    ghost once = { first_of (Prim.search rules, Prim.grind (arith, Self.row.coded.inj)) };
+    ghost once = { λ s. s.once };
 
-    ghost fits = { first_of (Prim.search rules, Prim.grind (arith, Self.row.coded.inj)) };
+    ghost fits = { stood_fits };
 
     fn find(&self, id: u64) -> Option<usize> {
         let first = self.first?;

@@ -13,69 +13,69 @@ use Rattle.interpret.proofs.Reading.{text_reads, text_fails}
 use Rattle.interpret.proofs.Creations.{text_operand, text_operand_fails, time_operand, time_operand_fails, fields-none, fields_stop, fields-later, fields-more}
 use Rattle.interpret.proofs.creation.read_full.Goals as goal
 
-pub returns-in-err-name : goal.returns-in-err-name
-returns-in-err-name g c =
-    let p = err_from_is_err_and c.from-residual.result c.from-residual.ensures.1 in
+pub returns-in_err-name : goal.returns-in_err-name
+returns-in_err-name g c =
+    let p = err_from_is_err_and c.from_residual.result c.from_residual.ensures.1 in
     rw (p.1, p.2) (record {
       reads = λ m.
           let b = g.T.Text.bytes in
           let buffer = held c.args.buffer.now in
           let ss = with_strings c.args.strings.now m in
-          (fields_stop buffer (Shows b ss) name S ((service, S) ∷ (resource, S) ∷ (type, S) ∷ (start, I) ∷ []) c.args.index.now c.args.index.now (refusal c.in-err-name.field-0.0) (text_operand_fails buffer (Shows b ss) c.args.index.now (refusal c.in-err-name.field-0.0) (text_fails b buffer ss c.args.index.now c.read_string.new.index c.in-err-name.field-0.0 c.in-err-name.ensures.cases)));
+          (fields_stop buffer (Shows b ss) name S ((service, S) ∷ (resource, S) ∷ (type, S) ∷ (start, I) ∷ []) c.args.index.now c.args.index.now (refusal c.in_err-name.field-0.0) (text_operand_fails buffer (Shows b ss) c.args.index.now (refusal c.in_err-name.field-0.0) (text_fails b buffer ss c.args.index.now c.read_string.new.index c.in_err-name.field-0.0 c.in_err-name.ensures.cases)));
     })
 
-pub returns-in-err-service : goal.returns-in-err-service
-returns-in-err-service g c =
-    let p = err_from_is_err_and c.from-residual-in-err-service.result c.from-residual-in-err-service.ensures.1 in
+pub returns-in_err-service : goal.returns-in_err-service
+returns-in_err-service g c =
+    let p = err_from_is_err_and c.from_residual-in_err-service.result c.from_residual-in_err-service.ensures.1 in
     rw (p.1, p.2) (record {
       reads = λ m.
           let b = g.T.Text.bytes in
           let buffer = held c.args.buffer.now in
           let ss = with_strings c.args.strings.now m in
-          (fields-later buffer (Shows b ss) name S ((service, S) ∷ (resource, S) ∷ (type, S) ∷ (start, I) ∷ []) c.args.index.now c.read_string.new.index (text (b c.in-ok-name.name)) (refusal c.in-err-service.field-0.0) (text_operand buffer (Shows b ss) c.args.index.now c.read_string.new.index (b c.in-ok-name.name) (text_reads b buffer ss c.args.index.now c.read_string.new.index c.in-ok-name.name c.in-ok-name.ensures.cases))
-          (fields_stop buffer (Shows b ss) service S ((resource, S) ∷ (type, S) ∷ (start, I) ∷ []) c.read_string.new.index c.read_string.new.index (refusal c.in-err-service.field-0.0) (text_operand_fails buffer (Shows b ss) c.read_string.new.index (refusal c.in-err-service.field-0.0) (text_fails b buffer ss c.read_string.new.index c.read_string-2.new.index c.in-err-service.field-0.0 c.in-err-service.ensures.cases))));
+          (fields-later buffer (Shows b ss) name S ((service, S) ∷ (resource, S) ∷ (type, S) ∷ (start, I) ∷ []) c.args.index.now c.read_string.new.index (text (b c.in_ok-name.name)) (refusal c.in_err-service.field-0.0) (text_operand buffer (Shows b ss) c.args.index.now c.read_string.new.index (b c.in_ok-name.name) (text_reads b buffer ss c.args.index.now c.read_string.new.index c.in_ok-name.name c.in_ok-name.ensures.cases))
+          (fields_stop buffer (Shows b ss) service S ((resource, S) ∷ (type, S) ∷ (start, I) ∷ []) c.read_string.new.index c.read_string.new.index (refusal c.in_err-service.field-0.0) (text_operand_fails buffer (Shows b ss) c.read_string.new.index (refusal c.in_err-service.field-0.0) (text_fails b buffer ss c.read_string.new.index c.read_string-2.new.index c.in_err-service.field-0.0 c.in_err-service.ensures.cases))));
     })
 
-pub returns-in-err-resource : goal.returns-in-err-resource
-returns-in-err-resource g c =
-    let p = err_from_is_err_and c.from-residual-in-err-resource.result c.from-residual-in-err-resource.ensures.1 in
+pub returns-in_err-resource : goal.returns-in_err-resource
+returns-in_err-resource g c =
+    let p = err_from_is_err_and c.from_residual-in_err-resource.result c.from_residual-in_err-resource.ensures.1 in
     rw (p.1, p.2) (record {
       reads = λ m.
           let b = g.T.Text.bytes in
           let buffer = held c.args.buffer.now in
           let ss = with_strings c.args.strings.now m in
-          (fields-later buffer (Shows b ss) name S ((service, S) ∷ (resource, S) ∷ (type, S) ∷ (start, I) ∷ []) c.args.index.now c.read_string.new.index (text (b c.in-ok-name.name)) (refusal c.in-err-resource.field-0.0) (text_operand buffer (Shows b ss) c.args.index.now c.read_string.new.index (b c.in-ok-name.name) (text_reads b buffer ss c.args.index.now c.read_string.new.index c.in-ok-name.name c.in-ok-name.ensures.cases))
-          (fields-later buffer (Shows b ss) service S ((resource, S) ∷ (type, S) ∷ (start, I) ∷ []) c.read_string.new.index c.read_string-2.new.index (text (b c.in-ok-service.service)) (refusal c.in-err-resource.field-0.0) (text_operand buffer (Shows b ss) c.read_string.new.index c.read_string-2.new.index (b c.in-ok-service.service) (text_reads b buffer ss c.read_string.new.index c.read_string-2.new.index c.in-ok-service.service c.in-ok-service.ensures.cases))
-          (fields_stop buffer (Shows b ss) resource S ((type, S) ∷ (start, I) ∷ []) c.read_string-2.new.index c.read_string-2.new.index (refusal c.in-err-resource.field-0.0) (text_operand_fails buffer (Shows b ss) c.read_string-2.new.index (refusal c.in-err-resource.field-0.0) (text_fails b buffer ss c.read_string-2.new.index c.read_string-3.new.index c.in-err-resource.field-0.0 c.in-err-resource.ensures.cases)))));
+          (fields-later buffer (Shows b ss) name S ((service, S) ∷ (resource, S) ∷ (type, S) ∷ (start, I) ∷ []) c.args.index.now c.read_string.new.index (text (b c.in_ok-name.name)) (refusal c.in_err-resource.field-0.0) (text_operand buffer (Shows b ss) c.args.index.now c.read_string.new.index (b c.in_ok-name.name) (text_reads b buffer ss c.args.index.now c.read_string.new.index c.in_ok-name.name c.in_ok-name.ensures.cases))
+          (fields-later buffer (Shows b ss) service S ((resource, S) ∷ (type, S) ∷ (start, I) ∷ []) c.read_string.new.index c.read_string-2.new.index (text (b c.in_ok-service.service)) (refusal c.in_err-resource.field-0.0) (text_operand buffer (Shows b ss) c.read_string.new.index c.read_string-2.new.index (b c.in_ok-service.service) (text_reads b buffer ss c.read_string.new.index c.read_string-2.new.index c.in_ok-service.service c.in_ok-service.ensures.cases))
+          (fields_stop buffer (Shows b ss) resource S ((type, S) ∷ (start, I) ∷ []) c.read_string-2.new.index c.read_string-2.new.index (refusal c.in_err-resource.field-0.0) (text_operand_fails buffer (Shows b ss) c.read_string-2.new.index (refusal c.in_err-resource.field-0.0) (text_fails b buffer ss c.read_string-2.new.index c.read_string-3.new.index c.in_err-resource.field-0.0 c.in_err-resource.ensures.cases)))));
     })
 
-pub returns-in-err-kind : goal.returns-in-err-kind
-returns-in-err-kind g c =
-    let p = err_from_is_err_and c.from-residual-in-err-kind.result c.from-residual-in-err-kind.ensures.1 in
+pub returns-in_err-kind : goal.returns-in_err-kind
+returns-in_err-kind g c =
+    let p = err_from_is_err_and c.from_residual-in_err-kind.result c.from_residual-in_err-kind.ensures.1 in
     rw (p.1, p.2) (record {
       reads = λ m.
           let b = g.T.Text.bytes in
           let buffer = held c.args.buffer.now in
           let ss = with_strings c.args.strings.now m in
-          (fields-later buffer (Shows b ss) name S ((service, S) ∷ (resource, S) ∷ (type, S) ∷ (start, I) ∷ []) c.args.index.now c.read_string.new.index (text (b c.in-ok-name.name)) (refusal c.in-err-kind.field-0.0) (text_operand buffer (Shows b ss) c.args.index.now c.read_string.new.index (b c.in-ok-name.name) (text_reads b buffer ss c.args.index.now c.read_string.new.index c.in-ok-name.name c.in-ok-name.ensures.cases))
-          (fields-later buffer (Shows b ss) service S ((resource, S) ∷ (type, S) ∷ (start, I) ∷ []) c.read_string.new.index c.read_string-2.new.index (text (b c.in-ok-service.service)) (refusal c.in-err-kind.field-0.0) (text_operand buffer (Shows b ss) c.read_string.new.index c.read_string-2.new.index (b c.in-ok-service.service) (text_reads b buffer ss c.read_string.new.index c.read_string-2.new.index c.in-ok-service.service c.in-ok-service.ensures.cases))
-          (fields-later buffer (Shows b ss) resource S ((type, S) ∷ (start, I) ∷ []) c.read_string-2.new.index c.read_string-3.new.index (text (b c.in-ok-resource.resource)) (refusal c.in-err-kind.field-0.0) (text_operand buffer (Shows b ss) c.read_string-2.new.index c.read_string-3.new.index (b c.in-ok-resource.resource) (text_reads b buffer ss c.read_string-2.new.index c.read_string-3.new.index c.in-ok-resource.resource c.in-ok-resource.ensures.cases))
-          (fields_stop buffer (Shows b ss) type S ((start, I) ∷ []) c.read_string-3.new.index c.read_string-3.new.index (refusal c.in-err-kind.field-0.0) (text_operand_fails buffer (Shows b ss) c.read_string-3.new.index (refusal c.in-err-kind.field-0.0) (text_fails b buffer ss c.read_string-3.new.index c.read_string-4.new.index c.in-err-kind.field-0.0 c.in-err-kind.ensures.cases))))));
+          (fields-later buffer (Shows b ss) name S ((service, S) ∷ (resource, S) ∷ (type, S) ∷ (start, I) ∷ []) c.args.index.now c.read_string.new.index (text (b c.in_ok-name.name)) (refusal c.in_err-kind.field-0.0) (text_operand buffer (Shows b ss) c.args.index.now c.read_string.new.index (b c.in_ok-name.name) (text_reads b buffer ss c.args.index.now c.read_string.new.index c.in_ok-name.name c.in_ok-name.ensures.cases))
+          (fields-later buffer (Shows b ss) service S ((resource, S) ∷ (type, S) ∷ (start, I) ∷ []) c.read_string.new.index c.read_string-2.new.index (text (b c.in_ok-service.service)) (refusal c.in_err-kind.field-0.0) (text_operand buffer (Shows b ss) c.read_string.new.index c.read_string-2.new.index (b c.in_ok-service.service) (text_reads b buffer ss c.read_string.new.index c.read_string-2.new.index c.in_ok-service.service c.in_ok-service.ensures.cases))
+          (fields-later buffer (Shows b ss) resource S ((type, S) ∷ (start, I) ∷ []) c.read_string-2.new.index c.read_string-3.new.index (text (b c.in_ok-resource.resource)) (refusal c.in_err-kind.field-0.0) (text_operand buffer (Shows b ss) c.read_string-2.new.index c.read_string-3.new.index (b c.in_ok-resource.resource) (text_reads b buffer ss c.read_string-2.new.index c.read_string-3.new.index c.in_ok-resource.resource c.in_ok-resource.ensures.cases))
+          (fields_stop buffer (Shows b ss) type S ((start, I) ∷ []) c.read_string-3.new.index c.read_string-3.new.index (refusal c.in_err-kind.field-0.0) (text_operand_fails buffer (Shows b ss) c.read_string-3.new.index (refusal c.in_err-kind.field-0.0) (text_fails b buffer ss c.read_string-3.new.index c.read_string-4.new.index c.in_err-kind.field-0.0 c.in_err-kind.ensures.cases))))));
     })
 
-pub returns-in-err-start : goal.returns-in-err-start
-returns-in-err-start g c =
-    let p = err_from_is_err_and c.from-residual-in-err-start.result c.from-residual-in-err-start.ensures.1 in
+pub returns-in_err-start : goal.returns-in_err-start
+returns-in_err-start g c =
+    let p = err_from_is_err_and c.from_residual-in_err-start.result c.from_residual-in_err-start.ensures.1 in
     rw (p.1, p.2) (record {
       reads = λ m.
           let b = g.T.Text.bytes in
           let buffer = held c.args.buffer.now in
           let ss = with_strings c.args.strings.now m in
-          (fields-later buffer (Shows b ss) name S ((service, S) ∷ (resource, S) ∷ (type, S) ∷ (start, I) ∷ []) c.args.index.now c.read_string.new.index (text (b c.in-ok-name.name)) (refusal c.in-err-start.field-0.0) (text_operand buffer (Shows b ss) c.args.index.now c.read_string.new.index (b c.in-ok-name.name) (text_reads b buffer ss c.args.index.now c.read_string.new.index c.in-ok-name.name c.in-ok-name.ensures.cases))
-          (fields-later buffer (Shows b ss) service S ((resource, S) ∷ (type, S) ∷ (start, I) ∷ []) c.read_string.new.index c.read_string-2.new.index (text (b c.in-ok-service.service)) (refusal c.in-err-start.field-0.0) (text_operand buffer (Shows b ss) c.read_string.new.index c.read_string-2.new.index (b c.in-ok-service.service) (text_reads b buffer ss c.read_string.new.index c.read_string-2.new.index c.in-ok-service.service c.in-ok-service.ensures.cases))
-          (fields-later buffer (Shows b ss) resource S ((type, S) ∷ (start, I) ∷ []) c.read_string-2.new.index c.read_string-3.new.index (text (b c.in-ok-resource.resource)) (refusal c.in-err-start.field-0.0) (text_operand buffer (Shows b ss) c.read_string-2.new.index c.read_string-3.new.index (b c.in-ok-resource.resource) (text_reads b buffer ss c.read_string-2.new.index c.read_string-3.new.index c.in-ok-resource.resource c.in-ok-resource.ensures.cases))
-          (fields-later buffer (Shows b ss) type S ((start, I) ∷ []) c.read_string-3.new.index c.read_string-4.new.index (text (b c.in-ok-kind.kind)) (refusal c.in-err-start.field-0.0) (text_operand buffer (Shows b ss) c.read_string-3.new.index c.read_string-4.new.index (b c.in-ok-kind.kind) (text_reads b buffer ss c.read_string-3.new.index c.read_string-4.new.index c.in-ok-kind.kind c.in-ok-kind.ensures.cases))
-          (fields_stop buffer (Shows b ss) start I ([]) c.read_string-4.new.index c.read_string-4.new.index (refusal c.in-err-start.field-0.0) (time_operand_fails buffer (Shows b ss) c.read_string-4.new.index c.read.new.index c.in-err-start.field-0.0 c.in-err-start.ensures.cases))))));
+          (fields-later buffer (Shows b ss) name S ((service, S) ∷ (resource, S) ∷ (type, S) ∷ (start, I) ∷ []) c.args.index.now c.read_string.new.index (text (b c.in_ok-name.name)) (refusal c.in_err-start.field-0.0) (text_operand buffer (Shows b ss) c.args.index.now c.read_string.new.index (b c.in_ok-name.name) (text_reads b buffer ss c.args.index.now c.read_string.new.index c.in_ok-name.name c.in_ok-name.ensures.cases))
+          (fields-later buffer (Shows b ss) service S ((resource, S) ∷ (type, S) ∷ (start, I) ∷ []) c.read_string.new.index c.read_string-2.new.index (text (b c.in_ok-service.service)) (refusal c.in_err-start.field-0.0) (text_operand buffer (Shows b ss) c.read_string.new.index c.read_string-2.new.index (b c.in_ok-service.service) (text_reads b buffer ss c.read_string.new.index c.read_string-2.new.index c.in_ok-service.service c.in_ok-service.ensures.cases))
+          (fields-later buffer (Shows b ss) resource S ((type, S) ∷ (start, I) ∷ []) c.read_string-2.new.index c.read_string-3.new.index (text (b c.in_ok-resource.resource)) (refusal c.in_err-start.field-0.0) (text_operand buffer (Shows b ss) c.read_string-2.new.index c.read_string-3.new.index (b c.in_ok-resource.resource) (text_reads b buffer ss c.read_string-2.new.index c.read_string-3.new.index c.in_ok-resource.resource c.in_ok-resource.ensures.cases))
+          (fields-later buffer (Shows b ss) type S ((start, I) ∷ []) c.read_string-3.new.index c.read_string-4.new.index (text (b c.in_ok-kind.kind)) (refusal c.in_err-start.field-0.0) (text_operand buffer (Shows b ss) c.read_string-3.new.index c.read_string-4.new.index (b c.in_ok-kind.kind) (text_reads b buffer ss c.read_string-3.new.index c.read_string-4.new.index c.in_ok-kind.kind c.in_ok-kind.ensures.cases))
+          (fields_stop buffer (Shows b ss) start I ([]) c.read_string-4.new.index c.read_string-4.new.index (refusal c.in_err-start.field-0.0) (time_operand_fails buffer (Shows b ss) c.read_string-4.new.index c.read.new.index c.in_err-start.field-0.0 c.in_err-start.ensures.cases))))));
     })
 
 pub returns : goal.returns
@@ -84,11 +84,11 @@ returns g c = record {
       let b = g.T.Text.bytes in
       let buffer = held c.args.buffer.now in
       let ss = with_strings c.args.strings.now m in
-      let e : to_z w64 (of_z w64 c.in-ok-start.start) ≡ c.in-ok-start.start = search rules in
-      subst (λ (z : ℤ). Acts (read_fields (fields_of Full)) buffer (Shows b ss) c.args.index.now (Shows b ss) (reached c.read.new.index (name ≔ text (b c.in-ok-name.name) ∷ service ≔ text (b c.in-ok-service.service) ∷ resource ≔ text (b c.in-ok-resource.resource) ∷ type ≔ text (b c.in-ok-kind.kind) ∷ start ≔ int z ∷ []))) (sym e)
-      (fields-more buffer (Shows b ss) name S ((service, S) ∷ (resource, S) ∷ (type, S) ∷ (start, I) ∷ []) c.args.index.now c.read_string.new.index c.read.new.index (text (b c.in-ok-name.name)) (service ≔ text (b c.in-ok-service.service) ∷ resource ≔ text (b c.in-ok-resource.resource) ∷ type ≔ text (b c.in-ok-kind.kind) ∷ start ≔ int c.in-ok-start.start ∷ []) (text_operand buffer (Shows b ss) c.args.index.now c.read_string.new.index (b c.in-ok-name.name) (text_reads b buffer ss c.args.index.now c.read_string.new.index c.in-ok-name.name c.in-ok-name.ensures.cases))
-      (fields-more buffer (Shows b ss) service S ((resource, S) ∷ (type, S) ∷ (start, I) ∷ []) c.read_string.new.index c.read_string-2.new.index c.read.new.index (text (b c.in-ok-service.service)) (resource ≔ text (b c.in-ok-resource.resource) ∷ type ≔ text (b c.in-ok-kind.kind) ∷ start ≔ int c.in-ok-start.start ∷ []) (text_operand buffer (Shows b ss) c.read_string.new.index c.read_string-2.new.index (b c.in-ok-service.service) (text_reads b buffer ss c.read_string.new.index c.read_string-2.new.index c.in-ok-service.service c.in-ok-service.ensures.cases))
-      (fields-more buffer (Shows b ss) resource S ((type, S) ∷ (start, I) ∷ []) c.read_string-2.new.index c.read_string-3.new.index c.read.new.index (text (b c.in-ok-resource.resource)) (type ≔ text (b c.in-ok-kind.kind) ∷ start ≔ int c.in-ok-start.start ∷ []) (text_operand buffer (Shows b ss) c.read_string-2.new.index c.read_string-3.new.index (b c.in-ok-resource.resource) (text_reads b buffer ss c.read_string-2.new.index c.read_string-3.new.index c.in-ok-resource.resource c.in-ok-resource.ensures.cases))
-      (fields-more buffer (Shows b ss) type S ((start, I) ∷ []) c.read_string-3.new.index c.read_string-4.new.index c.read.new.index (text (b c.in-ok-kind.kind)) (start ≔ int c.in-ok-start.start ∷ []) (text_operand buffer (Shows b ss) c.read_string-3.new.index c.read_string-4.new.index (b c.in-ok-kind.kind) (text_reads b buffer ss c.read_string-3.new.index c.read_string-4.new.index c.in-ok-kind.kind c.in-ok-kind.ensures.cases))
-      (fields-more buffer (Shows b ss) start I [] c.read_string-4.new.index c.read.new.index c.read.new.index (int c.in-ok-start.start) [] (time_operand buffer (Shows b ss) c.read_string-4.new.index c.read.new.index c.in-ok-start.start c.in-ok-start.ensures.cases) (fields-none buffer (Shows b ss) c.read.new.index))))));
+      let e : to_z w64 (of_z w64 c.in_ok-start.start) ≡ c.in_ok-start.start = search rules in
+      subst (λ (z : ℤ). Acts (read_fields (fields_of Full)) buffer (Shows b ss) c.args.index.now (Shows b ss) (reached c.read.new.index (name ≔ text (b c.in_ok-name.name) ∷ service ≔ text (b c.in_ok-service.service) ∷ resource ≔ text (b c.in_ok-resource.resource) ∷ type ≔ text (b c.in_ok-kind.kind) ∷ start ≔ int z ∷ []))) (sym e)
+      (fields-more buffer (Shows b ss) name S ((service, S) ∷ (resource, S) ∷ (type, S) ∷ (start, I) ∷ []) c.args.index.now c.read_string.new.index c.read.new.index (text (b c.in_ok-name.name)) (service ≔ text (b c.in_ok-service.service) ∷ resource ≔ text (b c.in_ok-resource.resource) ∷ type ≔ text (b c.in_ok-kind.kind) ∷ start ≔ int c.in_ok-start.start ∷ []) (text_operand buffer (Shows b ss) c.args.index.now c.read_string.new.index (b c.in_ok-name.name) (text_reads b buffer ss c.args.index.now c.read_string.new.index c.in_ok-name.name c.in_ok-name.ensures.cases))
+      (fields-more buffer (Shows b ss) service S ((resource, S) ∷ (type, S) ∷ (start, I) ∷ []) c.read_string.new.index c.read_string-2.new.index c.read.new.index (text (b c.in_ok-service.service)) (resource ≔ text (b c.in_ok-resource.resource) ∷ type ≔ text (b c.in_ok-kind.kind) ∷ start ≔ int c.in_ok-start.start ∷ []) (text_operand buffer (Shows b ss) c.read_string.new.index c.read_string-2.new.index (b c.in_ok-service.service) (text_reads b buffer ss c.read_string.new.index c.read_string-2.new.index c.in_ok-service.service c.in_ok-service.ensures.cases))
+      (fields-more buffer (Shows b ss) resource S ((type, S) ∷ (start, I) ∷ []) c.read_string-2.new.index c.read_string-3.new.index c.read.new.index (text (b c.in_ok-resource.resource)) (type ≔ text (b c.in_ok-kind.kind) ∷ start ≔ int c.in_ok-start.start ∷ []) (text_operand buffer (Shows b ss) c.read_string-2.new.index c.read_string-3.new.index (b c.in_ok-resource.resource) (text_reads b buffer ss c.read_string-2.new.index c.read_string-3.new.index c.in_ok-resource.resource c.in_ok-resource.ensures.cases))
+      (fields-more buffer (Shows b ss) type S ((start, I) ∷ []) c.read_string-3.new.index c.read_string-4.new.index c.read.new.index (text (b c.in_ok-kind.kind)) (start ≔ int c.in_ok-start.start ∷ []) (text_operand buffer (Shows b ss) c.read_string-3.new.index c.read_string-4.new.index (b c.in_ok-kind.kind) (text_reads b buffer ss c.read_string-3.new.index c.read_string-4.new.index c.in_ok-kind.kind c.in_ok-kind.ensures.cases))
+      (fields-more buffer (Shows b ss) start I [] c.read_string-4.new.index c.read.new.index c.read.new.index (int c.in_ok-start.start) [] (time_operand buffer (Shows b ss) c.read_string-4.new.index c.read.new.index c.in_ok-start.start c.in_ok-start.ensures.cases) (fields-none buffer (Shows b ss) c.read.new.index))))));
 }

@@ -13,28 +13,28 @@ use Rattle.interpret.proofs.Reading.{text_reads, text_fails}
 use Rattle.interpret.proofs.Creations.{text_operand, text_operand_fails, time_operand, time_operand_fails, fields-none, fields_stop, fields-later, fields-more}
 use Rattle.interpret.proofs.creation.read_named.Goals as goal
 
-pub returns-in-err-name : goal.returns-in-err-name
-returns-in-err-name g c =
-    let p = err_from_is_err_and c.from-residual.result c.from-residual.ensures.1 in
+pub returns-in_err-name : goal.returns-in_err-name
+returns-in_err-name g c =
+    let p = err_from_is_err_and c.from_residual.result c.from_residual.ensures.1 in
     rw (p.1, p.2) (record {
       reads = λ m.
           let b = g.T.Text.bytes in
           let buffer = held c.args.buffer.now in
           let ss = with_strings c.args.strings.now m in
-          (fields_stop buffer (Shows b ss) name S ((start, I) ∷ []) c.args.index.now c.args.index.now (refusal c.in-err-name.field-0.0) (text_operand_fails buffer (Shows b ss) c.args.index.now (refusal c.in-err-name.field-0.0) (text_fails b buffer ss c.args.index.now c.read_string.new.index c.in-err-name.field-0.0 c.in-err-name.ensures.cases)));
+          (fields_stop buffer (Shows b ss) name S ((start, I) ∷ []) c.args.index.now c.args.index.now (refusal c.in_err-name.field-0.0) (text_operand_fails buffer (Shows b ss) c.args.index.now (refusal c.in_err-name.field-0.0) (text_fails b buffer ss c.args.index.now c.read_string.new.index c.in_err-name.field-0.0 c.in_err-name.ensures.cases)));
       blank = tt;
     })
 
-pub returns-in-err-start : goal.returns-in-err-start
-returns-in-err-start g c =
-    let p = err_from_is_err_and c.from-residual-in-err-start.result c.from-residual-in-err-start.ensures.1 in
+pub returns-in_err-start : goal.returns-in_err-start
+returns-in_err-start g c =
+    let p = err_from_is_err_and c.from_residual-in_err-start.result c.from_residual-in_err-start.ensures.1 in
     rw (p.1, p.2) (record {
       reads = λ m.
           let b = g.T.Text.bytes in
           let buffer = held c.args.buffer.now in
           let ss = with_strings c.args.strings.now m in
-          (fields-later buffer (Shows b ss) name S ((start, I) ∷ []) c.args.index.now c.read_string.new.index (text (b c.in-ok-name.name)) (refusal c.in-err-start.field-0.0) (text_operand buffer (Shows b ss) c.args.index.now c.read_string.new.index (b c.in-ok-name.name) (text_reads b buffer ss c.args.index.now c.read_string.new.index c.in-ok-name.name c.in-ok-name.ensures.cases))
-          (fields_stop buffer (Shows b ss) start I ([]) c.read_string.new.index c.read_string.new.index (refusal c.in-err-start.field-0.0) (time_operand_fails buffer (Shows b ss) c.read_string.new.index c.read.new.index c.in-err-start.field-0.0 c.in-err-start.ensures.cases)));
+          (fields-later buffer (Shows b ss) name S ((start, I) ∷ []) c.args.index.now c.read_string.new.index (text (b c.in_ok-name.name)) (refusal c.in_err-start.field-0.0) (text_operand buffer (Shows b ss) c.args.index.now c.read_string.new.index (b c.in_ok-name.name) (text_reads b buffer ss c.args.index.now c.read_string.new.index c.in_ok-name.name c.in_ok-name.ensures.cases))
+          (fields_stop buffer (Shows b ss) start I ([]) c.read_string.new.index c.read_string.new.index (refusal c.in_err-start.field-0.0) (time_operand_fails buffer (Shows b ss) c.read_string.new.index c.read.new.index c.in_err-start.field-0.0 c.in_err-start.ensures.cases)));
       blank = tt;
     })
 
@@ -44,9 +44,9 @@ returns g c = record {
       let b = g.T.Text.bytes in
       let buffer = held c.args.buffer.now in
       let ss = with_strings c.args.strings.now m in
-      let e : to_z w64 (of_z w64 c.in-ok-start.start) ≡ c.in-ok-start.start = search rules in
-      subst (λ (z : ℤ). Acts (read_fields (fields_of Named)) buffer (Shows b ss) c.args.index.now (Shows b ss) (reached c.read.new.index (name ≔ text (b c.in-ok-name.name) ∷ start ≔ int z ∷ []))) (sym e)
-      (fields-more buffer (Shows b ss) name S ((start, I) ∷ []) c.args.index.now c.read_string.new.index c.read.new.index (text (b c.in-ok-name.name)) (start ≔ int c.in-ok-start.start ∷ []) (text_operand buffer (Shows b ss) c.args.index.now c.read_string.new.index (b c.in-ok-name.name) (text_reads b buffer ss c.args.index.now c.read_string.new.index c.in-ok-name.name c.in-ok-name.ensures.cases))
-      (fields-more buffer (Shows b ss) start I [] c.read_string.new.index c.read.new.index c.read.new.index (int c.in-ok-start.start) [] (time_operand buffer (Shows b ss) c.read_string.new.index c.read.new.index c.in-ok-start.start c.in-ok-start.ensures.cases) (fields-none buffer (Shows b ss) c.read.new.index)));
+      let e : to_z w64 (of_z w64 c.in_ok-start.start) ≡ c.in_ok-start.start = search rules in
+      subst (λ (z : ℤ). Acts (read_fields (fields_of Named)) buffer (Shows b ss) c.args.index.now (Shows b ss) (reached c.read.new.index (name ≔ text (b c.in_ok-name.name) ∷ start ≔ int z ∷ []))) (sym e)
+      (fields-more buffer (Shows b ss) name S ((start, I) ∷ []) c.args.index.now c.read_string.new.index c.read.new.index (text (b c.in_ok-name.name)) (start ≔ int c.in_ok-start.start ∷ []) (text_operand buffer (Shows b ss) c.args.index.now c.read_string.new.index (b c.in_ok-name.name) (text_reads b buffer ss c.args.index.now c.read_string.new.index c.in_ok-name.name c.in_ok-name.ensures.cases))
+      (fields-more buffer (Shows b ss) start I [] c.read_string.new.index c.read.new.index c.read.new.index (int c.in_ok-start.start) [] (time_operand buffer (Shows b ss) c.read_string.new.index c.read.new.index c.in_ok-start.start c.in_ok-start.ensures.cases) (fields-none buffer (Shows b ss) c.read.new.index)));
   blank = (c.empty.ensures, c.empty-2.ensures, c.empty-3.ensures);
 }

@@ -7,26 +7,26 @@ use Rattle.interpret.proofs.Reading.{text_reads, text_fails}
 use Rattle.interpret.proofs.Playing.{meta_reads, meta_no_key, meta_no_value}
 use Rattle.interpret.proofs.operands.read_meta.Goals as goal
 
-pub returns-in-err-key : goal.returns-in-err-key
-returns-in-err-key g c =
-    let p = err_from_is_err_and c.from-residual.result c.from-residual.ensures.1 in
+pub returns-in_err-key : goal.returns-in_err-key
+returns-in_err-key g c =
+    let p = err_from_is_err_and c.from_residual.result c.from_residual.ensures.1 in
     rw (p.1, p.2) (record {
       reads = λ m.
-          meta_no_key (held c.args.buffer.now) _ c.args.index.now (refusal c.in-err-key.field-0.0)
-          (text_fails g.T.Text.bytes (held c.args.buffer.now) (with_strings c.args.strings.now m) c.args.index.now c.read_string.new.index c.in-err-key.field-0.0 c.in-err-key.ensures.cases);
+          meta_no_key (held c.args.buffer.now) _ c.args.index.now (refusal c.in_err-key.field-0.0)
+          (text_fails g.T.Text.bytes (held c.args.buffer.now) (with_strings c.args.strings.now m) c.args.index.now c.read_string.new.index c.in_err-key.field-0.0 c.in_err-key.ensures.cases);
     })
 
-pub returns-in-err-value : goal.returns-in-err-value
-returns-in-err-value g c =
-    let p = err_from_is_err_and c.from-residual-in-err-value.result c.from-residual-in-err-value.ensures.1 in
+pub returns-in_err-value : goal.returns-in_err-value
+returns-in_err-value g c =
+    let p = err_from_is_err_and c.from_residual-in_err-value.result c.from_residual-in_err-value.ensures.1 in
     rw (p.1, p.2) (record {
       reads = λ m.
           let b = g.T.Text.bytes in
           let buffer = held c.args.buffer.now in
           let ss = with_strings c.args.strings.now m in
-          meta_no_value buffer _ c.args.index.now c.read_string.new.index (b c.in-ok-key.key) (refusal c.in-err-value.field-0.0)
-          (text_reads b buffer ss c.args.index.now c.read_string.new.index c.in-ok-key.key c.in-ok-key.ensures.cases)
-          (text_fails b buffer ss c.read_string.new.index c.read_string-2.new.index c.in-err-value.field-0.0 c.in-err-value.ensures.cases);
+          meta_no_value buffer _ c.args.index.now c.read_string.new.index (b c.in_ok-key.key) (refusal c.in_err-value.field-0.0)
+          (text_reads b buffer ss c.args.index.now c.read_string.new.index c.in_ok-key.key c.in_ok-key.ensures.cases)
+          (text_fails b buffer ss c.read_string.new.index c.read_string-2.new.index c.in_err-value.field-0.0 c.in_err-value.ensures.cases);
     })
 
 pub returns : goal.returns
@@ -35,7 +35,7 @@ returns g c = record {
       let b = g.T.Text.bytes in
       let buffer = held c.args.buffer.now in
       let ss = with_strings c.args.strings.now m in
-      meta_reads buffer _ c.args.index.now c.read_string.new.index c.read_string-2.new.index (b c.in-ok-key.key) (b c.in-ok-value.value)
-      (text_reads b buffer ss c.args.index.now c.read_string.new.index c.in-ok-key.key c.in-ok-key.ensures.cases)
-      (text_reads b buffer ss c.read_string.new.index c.read_string-2.new.index c.in-ok-value.value c.in-ok-value.ensures.cases);
+      meta_reads buffer _ c.args.index.now c.read_string.new.index c.read_string-2.new.index (b c.in_ok-key.key) (b c.in_ok-value.value)
+      (text_reads b buffer ss c.args.index.now c.read_string.new.index c.in_ok-key.key c.in_ok-key.ensures.cases)
+      (text_reads b buffer ss c.read_string.new.index c.read_string-2.new.index c.in_ok-value.value c.in_ok-value.ensures.cases);
 }

@@ -11,26 +11,26 @@ use Rattle.interpret.proofs.Reading.{text_reads, text_fails, bits_reads, bits_mi
 use Rattle.interpret.proofs.Playing.{metric_reads, metric_no_key, metric_no_value}
 use Rattle.interpret.proofs.operands.read_metric.Goals as goal
 
-pub returns-in-err-key : goal.returns-in-err-key
-returns-in-err-key g c =
-    let p = err_from_is_err_and c.from-residual.result c.from-residual.ensures.1 in
+pub returns-in_err-key : goal.returns-in_err-key
+returns-in_err-key g c =
+    let p = err_from_is_err_and c.from_residual.result c.from_residual.ensures.1 in
     rw (p.1, p.2) (record {
       reads = λ m.
-          metric_no_key (held c.args.buffer.now) _ c.args.index.now (refusal c.in-err-key.field-0.0)
-          (text_fails g.T.Text.bytes (held c.args.buffer.now) (with_strings c.args.strings.now m) c.args.index.now c.read_string.new.index c.in-err-key.field-0.0 c.in-err-key.ensures.cases);
+          metric_no_key (held c.args.buffer.now) _ c.args.index.now (refusal c.in_err-key.field-0.0)
+          (text_fails g.T.Text.bytes (held c.args.buffer.now) (with_strings c.args.strings.now m) c.args.index.now c.read_string.new.index c.in_err-key.field-0.0 c.in_err-key.ensures.cases);
     })
 
-pub returns-in-err-value : goal.returns-in-err-value
-returns-in-err-value g c =
-    let p = err_from_is_err_and c.from-residual-in-err-value.result c.from-residual-in-err-value.ensures.1 in
+pub returns-in_err-value : goal.returns-in_err-value
+returns-in_err-value g c =
+    let p = err_from_is_err_and c.from_residual-in_err-value.result c.from_residual-in_err-value.ensures.1 in
     rw (p.1, p.2) (record {
       reads = λ m.
           let b = g.T.Text.bytes in
           let buffer = held c.args.buffer.now in
           let ss = with_strings c.args.strings.now m in
-          metric_no_value buffer _ c.args.index.now c.read_string.new.index (b c.in-ok-key.key) (refusal c.in-err-value.field-0.0)
-          (text_reads b buffer ss c.args.index.now c.read_string.new.index c.in-ok-key.key c.in-ok-key.ensures.cases)
-          (bits_misses buffer (Shows b ss) c.read_string.new.index c.read.new.index c.in-err-value.field-0.0 c.in-err-value.ensures.cases);
+          metric_no_value buffer _ c.args.index.now c.read_string.new.index (b c.in_ok-key.key) (refusal c.in_err-value.field-0.0)
+          (text_reads b buffer ss c.args.index.now c.read_string.new.index c.in_ok-key.key c.in_ok-key.ensures.cases)
+          (bits_misses buffer (Shows b ss) c.read_string.new.index c.read.new.index c.in_err-value.field-0.0 c.in_err-value.ensures.cases);
     })
 
 pub returns : goal.returns
@@ -39,8 +39,8 @@ returns g c = record {
       let b = g.T.Text.bytes in
       let buffer = held c.args.buffer.now in
       let ss = with_strings c.args.strings.now m in
-      subst (λ (n : ℕ). Acts (read_attribute S_F) buffer (Shows b ss) c.args.index.now (Shows b ss) (reached c.read.new.index (metric (b c.in-ok-key.key) n))) (sym c.float_bits.ensures)
-      (metric_reads buffer (Shows b ss) c.args.index.now c.read_string.new.index c.read.new.index (b c.in-ok-key.key) (bits_of c.in-ok-value.value)
-      (text_reads b buffer ss c.args.index.now c.read_string.new.index c.in-ok-key.key c.in-ok-key.ensures.cases)
-      (bits_reads buffer (Shows b ss) c.read_string.new.index c.read.new.index c.in-ok-value.value c.in-ok-value.ensures.cases));
+      subst (λ (n : ℕ). Acts (read_attribute S_F) buffer (Shows b ss) c.args.index.now (Shows b ss) (reached c.read.new.index (metric (b c.in_ok-key.key) n))) (sym c.float_bits.ensures)
+      (metric_reads buffer (Shows b ss) c.args.index.now c.read_string.new.index c.read.new.index (b c.in_ok-key.key) (bits_of c.in_ok-value.value)
+      (text_reads b buffer ss c.args.index.now c.read_string.new.index c.in_ok-key.key c.in_ok-key.ensures.cases)
+      (bits_reads buffer (Shows b ss) c.read_string.new.index c.read.new.index c.in_ok-value.value c.in_ok-value.ensures.cases));
 }

@@ -15,21 +15,21 @@ loop-i-init g c = (tt, played_start g.T.Text.bytes operation (held c.args.buffer
 pub operate-requires : goal.operate-requires
 operate-requires g c = record { order = c.loop-i.invariant.1.order; cached = c.loop-i.invariant.0 }
 
-pub returns-in-err-operate : goal.returns-in-err-operate
-returns-in-err-operate g c =
-    let p = err_from_is_err_and c.from-residual.result c.from-residual.ensures.1 in
+pub returns-in_err-operate : goal.returns-in_err-operate
+returns-in_err-operate g c =
+    let p = err_from_is_err_and c.from_residual.result c.from_residual.ensures.1 in
     let same : c.loop-i.i + suc (c.args.count - suc c.loop-i.i) ≡ c.args.count = omega arith in
     rw (p.1, p.2) (record {
       played =
           played_turned g.T.Text.bytes operation (held c.args.buffer.now) (Created (held c.args.buffer.now)) (store c.args.spans.now c.args.span_meta.now c.args.span_metrics.now c.args.segments.now c.args.segment_meta.now c.args.segment_metrics.now c.args.strings.now c.args.defaults.now c.args.settings.now (g.S.Index.held c.args.by_id.now) (g.S.Index.room c.args.by_id.now) (g.G.Index.held c.args.by_segment.now) (g.G.Index.room c.args.by_segment.now)) c.args.index.now (Created (held c.args.buffer.now)) (λ id e. e) (store c.loop-i.spans c.loop-i.span_meta c.loop-i.span_metrics c.loop-i.segments c.loop-i.segment_meta c.loop-i.segment_metrics c.args.strings.now c.args.defaults.now c.loop-i.settings (g.S.Index.held c.loop-i.by_id) (g.S.Index.room c.loop-i.by_id) (g.G.Index.held c.loop-i.by_segment) (g.G.Index.room c.loop-i.by_segment)) _ c.loop-i.i c.loop-i.index c.operate.new.index c.loop-i.invariant.1
-          (c.args.count - suc c.loop-i.i) c.args.count c.in-err-operate.field-0.0 same c.in-err-operate.ensures.played;
+          (c.args.count - suc c.loop-i.i) c.args.count c.in_err-operate.field-0.0 same c.in_err-operate.ensures.played;
     })
 
 pub loop-i-preserved : goal.loop-i-preserved
 loop-i-preserved g c = (
   c.operate.ensures.cached,
   played_more g.T.Text.bytes operation (held c.args.buffer.now) (Created (held c.args.buffer.now)) (store c.args.spans.now c.args.span_meta.now c.args.span_metrics.now c.args.segments.now c.args.segment_meta.now c.args.segment_metrics.now c.args.strings.now c.args.defaults.now c.args.settings.now (g.S.Index.held c.args.by_id.now) (g.S.Index.room c.args.by_id.now) (g.G.Index.held c.args.by_segment.now) (g.G.Index.room c.args.by_segment.now)) c.args.index.now (Created (held c.args.buffer.now)) (λ id e. e) (store c.loop-i.spans c.loop-i.span_meta c.loop-i.span_metrics c.loop-i.segments c.loop-i.segment_meta c.loop-i.segment_metrics c.args.strings.now c.args.defaults.now c.loop-i.settings (g.S.Index.held c.loop-i.by_id) (g.S.Index.room c.loop-i.by_id) (g.G.Index.held c.loop-i.by_segment) (g.G.Index.room c.loop-i.by_segment)) _ c.loop-i.i c.loop-i.index c.operate.new.index c.loop-i.invariant.1
-      c.in-ok-operate.ensures.played,
+      c.in_ok-operate.ensures.played,
 )
 
 pub returns : goal.returns

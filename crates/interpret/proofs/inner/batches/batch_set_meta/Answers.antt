@@ -4,17 +4,17 @@ use Rattle.book.specs.Flush.{S_S}
 use Rattle.interpret.proofs.Playing.{count-unread, count_done}
 use Rattle.interpret.proofs.inner.batches.batch_set_meta.Goals as goal
 
-pub returns-in-err-count : goal.returns-in-err-count
-returns-in-err-count g c =
-    let p = err_from_is_err_and c.from-residual.result c.from-residual.ensures.1 in
+pub returns-in_err-count : goal.returns-in_err-count
+returns-in_err-count g c =
+    let p = err_from_is_err_and c.from_residual.result c.from_residual.ensures.1 in
     rw (p.1, p.2) (record {
       played = λ m o own.
-          count-unread g.T.Text.bytes (held c.args.buffer.now) _ c.args.index.now S_S c.args.id c.read.new.index c.in-err-count.field-0.0 o c.in-err-count.ensures.cases;
+          count-unread g.T.Text.bytes (held c.args.buffer.now) _ c.args.index.now S_S c.args.id c.read.new.index c.in_err-count.field-0.0 o c.in_err-count.ensures.cases;
     })
 
 pub returns : goal.returns
 returns g c = record {
   played = λ m o own.
-      count_done g.T.Text.bytes (held c.args.buffer.now) _ c.args.index.now S_S c.args.id c.in-ok-count.count c.read.new.index c.set_meta_times.new.index _ _ c.in-ok-count.ensures.cases
+      count_done g.T.Text.bytes (held c.args.buffer.now) _ c.args.index.now S_S c.args.id c.in_ok-count.count c.read.new.index c.set_meta_times.new.index _ _ c.in_ok-count.ensures.cases
       (c.set_meta_times.ensures.played m o own);
 }

@@ -13,22 +13,22 @@ use Rattle.interpret.proofs.inner.batches.set_meta_times.Goals as goal
 pub loop-i-init : goal.loop-i-init
 loop-i-init g c = λ m o own. played_start g.T.Text.bytes (set_attribute S_S c.args.id) (held c.args.buffer.now) NoneMade _ c.args.index.now o
 
-pub returns-in-err-set_meta : goal.returns-in-err-set_meta
-returns-in-err-set_meta g c =
-    let p = err_from_is_err_and c.from-residual.result c.from-residual.ensures.1 in
+pub returns-in_err-set_meta : goal.returns-in_err-set_meta
+returns-in_err-set_meta g c =
+    let p = err_from_is_err_and c.from_residual.result c.from_residual.ensures.1 in
     let same : c.loop-i.i + suc (c.args.count - suc c.loop-i.i) ≡ c.args.count = omega arith in
     rw (p.1, p.2) (record {
       played = λ m o own.
           let before = c.loop-i.invariant m o own in
           played_turned g.T.Text.bytes (set_attribute S_S c.args.id) (held c.args.buffer.now) NoneMade _ c.args.index.now NoneMade (λ id e. e) _ _ c.loop-i.i c.loop-i.index c.set_meta.new.index before
-          (c.args.count - suc c.loop-i.i) c.args.count c.in-err-set_meta.field-0.0 same (c.in-err-set_meta.ensures.played m before.order own);
+          (c.args.count - suc c.loop-i.i) c.args.count c.in_err-set_meta.field-0.0 same (c.in_err-set_meta.ensures.played m before.order own);
     })
 
 pub loop-i-preserved : goal.loop-i-preserved
 loop-i-preserved g c = λ m o own.
     let before = c.loop-i.invariant m o own in
     played_more g.T.Text.bytes (set_attribute S_S c.args.id) (held c.args.buffer.now) NoneMade _ c.args.index.now NoneMade (λ id e. e) _ _ c.loop-i.i c.loop-i.index c.set_meta.new.index before
-    (c.in-ok-set_meta.ensures.played m before.order own)
+    (c.in_ok-set_meta.ensures.played m before.order own)
 
 pub returns : goal.returns
 returns g c =

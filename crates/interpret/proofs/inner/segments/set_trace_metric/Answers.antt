@@ -6,19 +6,19 @@ use Rattle.operations.specs.Parts.{with_segments, with_segment_metrics, with_sea
 use Rattle.interpret.proofs.Playing.{note-unread, note_done}
 use Rattle.interpret.proofs.inner.segments.set_trace_metric.Goals as goal
 
-pub returns-in-err-key : goal.returns-in-err-key
-returns-in-err-key g c =
-    let p = err_from_is_err_and c.from-residual.result c.from-residual.ensures.1 in
+pub returns-in_err-key : goal.returns-in_err-key
+returns-in_err-key g c =
+    let p = err_from_is_err_and c.from_residual.result c.from_residual.ensures.1 in
     rw (p.1, p.2) (record {
       played = λ m o.
-          note-unread g.T.Text.bytes (held c.args.buffer.now) _ c.args.index.now S_F c.args.segment c.read_metric.new.index c.in-err-key.field-0.0 o
-          (c.in-err-key.ensures.reads (with_seats (g.G.Index.held c.args.by_segment.now) (with_segment_metrics c.args.segment_metrics.now (with_segments c.args.segments.now m))));
+          note-unread g.T.Text.bytes (held c.args.buffer.now) _ c.args.index.now S_F c.args.segment c.read_metric.new.index c.in_err-key.field-0.0 o
+          (c.in_err-key.ensures.reads (with_seats (g.G.Index.held c.args.by_segment.now) (with_segment_metrics c.args.segment_metrics.now (with_segments c.args.segments.now m))));
     })
 
 pub returns : goal.returns
 returns g c = record {
   played = λ m o.
       note_done g.T.Text.bytes (held c.args.buffer.now) _ c.args.index.now S_F c.args.segment _ c.read_metric.new.index _ _
-      (c.in-ok-key.ensures.reads (with_seats (g.G.Index.held c.args.by_segment.now) (with_segment_metrics c.args.segment_metrics.now (with_segments c.args.segments.now m))))
+      (c.in_ok-key.ensures.reads (with_seats (g.G.Index.held c.args.by_segment.now) (with_segment_metrics c.args.segment_metrics.now (with_segments c.args.segments.now m))))
       (c.add_segment_metric.ensures.done (with_strings c.args.strings.now m) o);
 }

@@ -6,17 +6,17 @@ use Rattle.operations.specs.Parts.{with_spans, with_span_meta}
 use Rattle.interpret.proofs.Playing.{attribute_unread, attribute_done}
 use Rattle.interpret.proofs.inner.spans.set_meta.Goals as goal
 
-pub returns-in-err-key : goal.returns-in-err-key
-returns-in-err-key g c =
-    let p = err_from_is_err_and c.from-residual.result c.from-residual.ensures.1 in
+pub returns-in_err-key : goal.returns-in_err-key
+returns-in_err-key g c =
+    let p = err_from_is_err_and c.from_residual.result c.from_residual.ensures.1 in
     rw (p.1, p.2) (record {
       played = λ m o own.
-          attribute_unread g.T.Text.bytes (held c.args.buffer.now) _ c.args.index.now S_S c.args.id c.read_meta.new.index c.in-err-key.field-0.0 o (c.in-err-key.ensures.reads (with_span_meta c.args.span_meta.now (with_spans c.args.spans.now m)));
+          attribute_unread g.T.Text.bytes (held c.args.buffer.now) _ c.args.index.now S_S c.args.id c.read_meta.new.index c.in_err-key.field-0.0 o (c.in_err-key.ensures.reads (with_span_meta c.args.span_meta.now (with_spans c.args.spans.now m)));
     })
 
 pub returns : goal.returns
 returns g c = record {
   played = λ m o own.
-      attribute_done g.T.Text.bytes (held c.args.buffer.now) _ c.args.index.now S_S c.args.id _ c.read_meta.new.index _ _ (c.in-ok-key.ensures.reads (with_span_meta c.args.span_meta.now (with_spans c.args.spans.now m)))
+      attribute_done g.T.Text.bytes (held c.args.buffer.now) _ c.args.index.now S_S c.args.id _ c.read_meta.new.index _ _ (c.in_ok-key.ensures.reads (with_span_meta c.args.span_meta.now (with_spans c.args.spans.now m)))
       (c.add_meta.ensures.done (with_strings c.args.strings.now m) o own);
 }

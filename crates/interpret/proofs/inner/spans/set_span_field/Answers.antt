@@ -6,17 +6,17 @@ use Rattle.operations.specs.Parts.{with_spans}
 use Rattle.interpret.proofs.Playing.{attribute_unread, attribute_done}
 use Rattle.interpret.proofs.inner.spans.set_span_field.Goals as goal
 
-pub returns-in-err-field : goal.returns-in-err-field
-returns-in-err-field g c =
-    let p = err_from_is_err_and c.from-residual.result c.from-residual.ensures.1 in
+pub returns-in_err-field : goal.returns-in_err-field
+returns-in_err-field g c =
+    let p = err_from_is_err_and c.from_residual.result c.from_residual.ensures.1 in
     rw (p.1, p.2) (record {
       played = λ m o own.
-          attribute_unread g.T.Text.bytes (held c.args.buffer.now) _ c.args.index.now (attribute_of c.args.name) c.args.id c.read_field.new.index c.in-err-field.field-0.0 o (c.in-err-field.ensures.reads (with_spans c.args.spans.now m));
+          attribute_unread g.T.Text.bytes (held c.args.buffer.now) _ c.args.index.now (attribute_of c.args.name) c.args.id c.read_field.new.index c.in_err-field.field-0.0 o (c.in_err-field.ensures.reads (with_spans c.args.spans.now m));
     })
 
 pub returns : goal.returns
 returns g c = record {
   played = λ m o own.
-      attribute_done g.T.Text.bytes (held c.args.buffer.now) _ c.args.index.now (attribute_of c.args.name) c.args.id _ c.read_field.new.index _ _ (c.in-ok-field.ensures.reads (with_spans c.args.spans.now m))
+      attribute_done g.T.Text.bytes (held c.args.buffer.now) _ c.args.index.now (attribute_of c.args.name) c.args.id _ c.read_field.new.index _ _ (c.in_ok-field.ensures.reads (with_spans c.args.spans.now m))
       (c.set_field.ensures.done (with_strings c.args.strings.now m) o own);
 }

@@ -8,24 +8,30 @@ use Rattle.small_index.proofs.Places.{puts-once, puts_means}
 use Rattle.small_index.proofs.Stands.{full, hit_list, miss, put_first, put_list, put-end}
 use Rattle.small_index.proofs.segment.indexed.SmallSegmentMapIndex.put.Goals as goal
 
-pub invariant-of-self-then-first-id : goal.invariant-of-self-then-first-id
-invariant-of-self-then-first-id c =
+pub invariant_of-self-then-first-id : goal.invariant_of-self-then-first-id
+invariant_of-self-then-first-id c =
     let s = c.args.self.now in
-    let e : Entry = record { id = c.args.id; number = c.args.number } in (
-      s.sized,
-      (s.short, (λ n. absurd (none-some _ _ n refl), (puts-once (stood s) _ s.once e (put_first s c.in-Some.first c.in-Some.is e c.if-first-id.true), tt))),
-    )
+    let e : Entry = record { id = c.args.id; number = c.args.number } in
+    record {
+      sized = s.sized;
+      short = s.short;
+      packed = λ n. absurd (none-some _ _ n refl);
+      once = puts-once (stood s) _ s.once e (put_first s c.in-Some.first c.in-Some.is e c.if-first-id.true);
+    }
 
-pub invariant-of-self-in-Some-place : goal.invariant-of-self-in-Some-place
-invariant-of-self-in-Some-place c =
+pub invariant_of-self-in-Some-place : goal.invariant_of-self-in-Some-place
+invariant_of-self-in-Some-place c =
     let s = c.args.self.now in
     let e : Entry = record { id = c.args.id; number = c.args.number } in
     let h = c.in-Some-place.ensures in
     let a = c.replace.ensures in
-    let is = put_list s c.in-Some.first c.in-Some.is e c.in-Some-place.i h.0 h.1 c.replace.new.self.entries c.replace.new.self.len a.items a.len in (
-      ap length a.items ∙ length-set s.overflow.entries c.in-Some-place.i e ∙ s.sized,
-      (omega (arith, s.short, a.len), (λ n. a.len ∙ s.packed n, (puts-once (stood s) _ s.once e is, tt))),
-    )
+    let is = put_list s c.in-Some.first c.in-Some.is e c.in-Some-place.i h.0 h.1 c.replace.new.self.entries c.replace.new.self.len a.items a.len in
+    record {
+      sized = ap length a.items ∙ length-set s.overflow.entries c.in-Some-place.i e ∙ s.sized;
+      short = omega (arith, s.short, a.len);
+      packed = λ n. a.len ∙ s.packed n;
+      once = puts-once (stood s) _ s.once e is;
+    }
 
 pub returns-in-Some-place : goal.returns-in-Some-place
 returns-in-Some-place c =
@@ -51,16 +57,19 @@ returns-then-is_full c =
       places = tt;
     }
 
-pub invariant-of-self-2 : goal.invariant-of-self-2
-invariant-of-self-2 c =
+pub invariant_of-self-2 : goal.invariant_of-self-2
+invariant_of-self-2 c =
     let s = c.args.self.now in
     let e : Entry = record { id = c.args.id; number = c.args.number } in
     let a = c.push.ensures in
     let lt : s.overflow.len < 255 = omega (arith, s.short, eqb-false s.overflow.len 255 (sym c.is_full.ensures ∙ c.if-is_full.false)) in
-    let is = put-end s c.in-Some.first c.in-Some.is e c.if-first-id.false c.in_default-place.ensures c.push.new.self.entries c.push.new.self.len lt a.items a.len in (
-      ap length a.items ∙ length-set s.overflow.entries s.overflow.len e ∙ s.sized,
-      (omega (arith, lt, a.len), (λ n. absurd (none-some _ _ n c.in-Some.is), (puts-once (stood s) _ s.once e is, tt))),
-    )
+    let is = put-end s c.in-Some.first c.in-Some.is e c.if-first-id.false c.in_default-place.ensures c.push.new.self.entries c.push.new.self.len lt a.items a.len in
+    record {
+      sized = ap length a.items ∙ length-set s.overflow.entries s.overflow.len e ∙ s.sized;
+      short = omega (arith, lt, a.len);
+      packed = λ n. absurd (none-some _ _ n c.in-Some.is);
+      once = puts-once (stood s) _ s.once e is;
+    }
 
 pub returns : goal.returns
 returns c =

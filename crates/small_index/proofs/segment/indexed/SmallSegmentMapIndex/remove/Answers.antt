@@ -10,8 +10,8 @@ use Rattle.small_index.proofs.segment.indexed.SmallSegmentMapIndex.remove.Goals 
 pub returns-then-first-id : goal.returns-then-first-id
 returns-then-first-id c =
     let s = c.args.self.now in
-    let f = c.in-ok-first.first in
-    let first = c.in-ok-first.was in
+    let f = c.in_ok-first.first in
+    let first = c.in_ok-first.was in
     let is = c.move_up.ensures ∙ out_first s f first c.args.id c.if-first-id.true in
     record {
       cases = outs_means (stood s) _ s.once c.args.id (Some f.number) is (sym (hit-first s f first c.args.id c.if-first-id.true));
@@ -20,38 +20,41 @@ returns-then-first-id c =
       places = is;
     }
 
-pub returns-in-err-i : goal.returns-in-err-i
-returns-in-err-i c =
+pub returns-in_err-i : goal.returns-in_err-i
+returns-in_err-i c =
     let s = c.args.self.now in
-    let f = c.in-ok-first.first in
-    let first = c.in-ok-first.was in
-    let none = c.in-err-i.ensures in
+    let f = c.in_ok-first.first in
+    let first = c.in_ok-first.was in
+    let none = c.in_err-i.ensures in
     let is = out_none s f first c.args.id c.if-first-id.false none in
-    let former = c.from-residual-in-err-i.ensures ∙ sym (miss s f first c.args.id c.if-first-id.false none) in
+    let former = c.from_residual-in_err-i.ensures ∙ sym (miss s f first c.args.id c.if-first-id.false none) in
     record {
-      cases = outs_means (stood s) (stood s) s.once c.args.id c.from-residual-in-err-i.result is former;
+      cases = outs_means (stood s) (stood s) s.once c.args.id c.from_residual-in_err-i.result is former;
       same = λ _. refl;
       capacity = refl;
       places = is;
     }
 
-pub invariant-of-self : goal.invariant-of-self
-invariant-of-self c =
+pub invariant_of-self : goal.invariant_of-self
+invariant_of-self c =
     let s = c.args.self.now in
-    let h = c.in-ok-i.ensures in
+    let h = c.in_ok-i.ensures in
     let a = c.swap_remove.ensures in
-    let is = out_list s c.in-ok-first.first c.in-ok-first.was c.in-ok-i.i c.args.id h.0 h.1 c.swap_remove.new.self.entries c.swap_remove.new.self.len a.items a.len in (
-      ap length a.items ∙ length-set s.overflow.entries c.in-ok-i.i (get_or s.overflow.entries (s.overflow.len - 1) blank) ∙ s.sized,
-      (omega (arith, s.short, a.len), (λ n. absurd (none-some _ _ n c.in-ok-first.was), (outs-once (stood s) _ s.once c.args.id is, tt))),
-    )
+    let is = out_list s c.in_ok-first.first c.in_ok-first.was c.in_ok-i.i c.args.id h.0 h.1 c.swap_remove.new.self.entries c.swap_remove.new.self.len a.items a.len in
+    record {
+      sized = ap length a.items ∙ length-set s.overflow.entries c.in_ok-i.i (get_or s.overflow.entries (s.overflow.len - 1) blank) ∙ s.sized;
+      short = omega (arith, s.short, a.len);
+      packed = λ n. absurd (none-some _ _ n c.in_ok-first.was);
+      once = outs-once (stood s) _ s.once c.args.id is;
+    }
 
 pub returns : goal.returns
 returns c =
     let s = c.args.self.now in
-    let h = c.in-ok-i.ensures in
+    let h = c.in_ok-i.ensures in
     let a = c.swap_remove.ensures in
-    let is = out_list s c.in-ok-first.first c.in-ok-first.was c.in-ok-i.i c.args.id h.0 h.1 c.swap_remove.new.self.entries c.swap_remove.new.self.len a.items a.len in
-    let former = ap Some a.value ∙ sym (hit_list s c.in-ok-first.first c.in-ok-first.was c.in-ok-i.i c.args.id h.0 h.1) in
+    let is = out_list s c.in_ok-first.first c.in_ok-first.was c.in_ok-i.i c.args.id h.0 h.1 c.swap_remove.new.self.entries c.swap_remove.new.self.len a.items a.len in
+    let former = ap Some a.value ∙ sym (hit_list s c.in_ok-first.first c.in_ok-first.was c.in_ok-i.i c.args.id h.0 h.1) in
     record {
       cases = outs_means (stood s) _ s.once c.args.id (Some c.swap_remove.result) is former;
       same = λ n. absurd (none-some _ _ n refl);
