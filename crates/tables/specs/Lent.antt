@@ -1,6 +1,6 @@
 -- The memory that a call was lent, as one value: as it was passed, and as it stands at the return.
 use Rattle.std.specs.Prelude.{ℕ, List, Option}
-use Rattle.std.specs.Borrow.{Bor}
+use Rattle.std.specs.Borrow.{MutBor}
 use Rattle.index.specs.declared.entry.Entry.{Entry}
 use Rattle.tables.specs.declared.span.Span.{Span}
 use Rattle.tables.specs.declared.segment.Segment.{Segment}
@@ -15,7 +15,7 @@ passed t gs s ids room seats seats_room =
 -- at the return the tables stand one after the other
 abbrev pub Returned : Type 0 → Type 0
 Returned T =
-    Bor (List (Span T)) × (Bor (List (T × T)) × (Bor (List (T × ℕ)) × (Bor (List (T × T)) × (Bor (List (T × ℕ)) × (Bor (List (Option T)) × (Bor (List (T × T)) × Unit {0}))))))
+    MutBor (List (Span T)) × (MutBor (List (T × T)) × (MutBor (List (T × ℕ)) × (MutBor (List (T × T)) × (MutBor (List (T × ℕ)) × (MutBor (List (Option T)) × (MutBor (List (T × T)) × Unit {0}))))))
 
 abbrev pub left : {T : Type 0} → Returned T → List (Segment T) → Settings T → List Entry → ℕ → List Entry → ℕ → Store T
 left t gs s ids room seats seats_room =
