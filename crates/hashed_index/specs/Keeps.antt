@@ -1,5 +1,5 @@
 -- What the places of a hashed index mean.
-use Rattle.std.specs.Prelude.{◌≡◌, ℕ, zero, suc, ◌+◌, ◌-◌, ◌<◌, ◌≤◌, false, ◌⊎◌, List, [], ◌∷◌, length, get_or, Some, None, Option, ◌≢◌, nat_eq, slice_index_or, slice_set, refl}
+use Rattle.std.specs.Prelude.{◌≡◌, ℕ, zero, suc, ◌+◌, ◌<◌, ◌≤◌, false, ◌⊎◌, List, [], ◌∷◌, length, get_or, Some, None, Option, ◌≢◌, nat_eq, slice_index_or, slice_set, refl}
 use Rattle.std.proofs.Common.{sym, ap, subst, ◌∙◌, inl, inr, arith}
 use Rattle.std.specs.Map.{update}
 use Rattle.std.proofs.lemmas.Bool.{cases_eq, eq-eqb, ne_eqb, both_ways}
@@ -101,17 +101,17 @@ Into ps qs k = (i : ℕ) (e : Entry) → slice_index_or ps i None ≡ Some e →
 
 pub kept_update : (ps qs : List (Option Entry)) (k : ℕ) (w : Option ℕ) → Alone qs → Into ps qs k → Into qs ps k → at (kept qs) k ≡ w → (q : ℕ) → at (kept qs) q ≡ update nat_eq (at (kept ps)) k w q
 kept_update ps qs k w alone into back here q =
-    elim (cases_eq q k) [
-      | inl x ↦ ap (at (kept qs)) x ∙ here ∙ sym (rw (eq-eqb q k x) refl)
+    elim (cases_eq k q) [
+      | inl x ↦ ap (at (kept qs)) (sym x) ∙ here ∙ sym (rw (eq-eqb k q x) refl)
       | inr ne ↦
           elim (kept_where ps q) [
             | inl u ↦
-                kept-missing qs q (λ i e is r. let b = back i e is (λ z. ne (sym r ∙ z)) in u.1 b.0 e b.1 r)
-                ∙ sym u.0 ∙ sym (rw (ne_eqb q k ne) refl)
+                kept-missing qs q (λ i e is r. let b = back i e is (λ z. ne (sym z ∙ r)) in u.1 b.0 e b.1 r)
+                ∙ sym u.0 ∙ sym (rw (ne_eqb k q ne) refl)
             | inr u ↦
-                let j = into u.0 u.1 u.2 (λ z. ne (sym u.3 ∙ z)) in
+                let j = into u.0 u.1 u.2 (λ z. ne (sym z ∙ u.3)) in
                 subst (λ (z : ℕ). at (kept qs) z ≡ Some u.1.number) u.3 (kept-is qs j.0 u.1 alone j.1)
-                ∙ sym u.4 ∙ sym (rw (ne_eqb q k ne) refl)
+                ∙ sym u.4 ∙ sym (rw (ne_eqb k q ne) refl)
           ]
     ]
 

@@ -5,25 +5,21 @@ use Rattle.hashed_index.specs.Places.{Alone, Reached, kept}
 use Rattle.hashed_index.proofs.Edits.{free_alone, free-reached, free-kept}
 use Rattle.hashed_index.proofs.hashed.HashedIndexIndex.clear.Goals as goal
 
-pub invariant-of-self : goal.invariant-of-self
-invariant-of-self c =
+pub invariant_of-self : goal.invariant_of-self
+invariant_of-self c =
     let s = c.args.self.now in
     let ws = c.empty.new.places in
     let n = length c.as_mut_slice.result.now in
     let wl : length ws ≡ s.places.len = omega (arith, c.empty.auto.places, c.as_mut_slice.ensures.len) in
-    let is : vec_items (with_items s.places ws) ≡ replicate n None = with_items_is s.places ws wl ∙ c.empty.ensures in (
-      s.some,
-      (
-        s.few,
-        (
-          ap length (with_items_is s.places ws wl) ∙ wl,
-          (
-            subst Alone (sym is) (free_alone n),
-            (subst Reached (sym is) (free-reached n), (sym (ap (λ ps. length (kept ps)) is ∙ ap length (free-kept n)), tt)),
-          ),
-        ),
-      ),
-    )
+    let is : vec_items (with_items s.places ws) ≡ replicate n None = with_items_is s.places ws wl ∙ c.empty.ensures in
+    record {
+      some = s.some;
+      few = s.few;
+      long = ap length (with_items_is s.places ws wl) ∙ wl;
+      alone = subst Alone (sym is) (free_alone n);
+      reached = subst Reached (sym is) (free-reached n);
+      counted = sym (ap (λ ps. length (kept ps)) is ∙ ap length (free-kept n));
+    }
 
 pub returns : goal.returns
 returns c =

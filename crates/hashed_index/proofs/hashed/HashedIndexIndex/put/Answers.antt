@@ -25,8 +25,8 @@ seek-requires c =
 pub write-requires : goal.write-requires
 write-requires c = omega (arith, c.in-At.ensures.0, c.as_slice.ensures.len, c.as_mut_slice.ensures.len)
 
-pub invariant-of-self : goal.invariant-of-self
-invariant-of-self c =
+pub invariant_of-self : goal.invariant_of-self
+invariant_of-self c =
     let s = c.args.self.now in
     let ps = vec_items s.places in
     let e : Entry = record { id = c.args.id; number = c.args.number } in
@@ -34,10 +34,15 @@ invariant-of-self c =
     let ws = c.write.new.places in
     let wl : length ws ≡ s.places.len = omega (arith, c.write.auto.places, c.as_mut_slice.ensures.len) in
     let is = written ps c.as_mut_slice.result.now ws (vec_items (with_items s.places ws)) c.in-At.i (Some e) c.as_mut_slice.ensures.value c.write.ensures (with_items_is s.places ws wl) in
-    let p = put_over ps _ c.args.id c.args.number s.alone s.reached c.in-At.i c.in-At.former spot is in (
-      s.some,
-      (s.few, (p.0 ∙ s.long, (p.1, (p.2, (omega (arith, s.counted, (over_means ps _ c.args.id c.args.number s.alone s.reached c.in-At.i c.in-At.former spot is 0).2), tt))))),
-    )
+    let p = put_over ps _ c.args.id c.args.number s.alone s.reached c.in-At.i c.in-At.former spot is in
+    record {
+      some = s.some;
+      few = s.few;
+      long = p.0 ∙ s.long;
+      alone = p.1;
+      reached = p.2;
+      counted = omega (arith, s.counted, (over_means ps _ c.args.id c.args.number s.alone s.reached c.in-At.i c.in-At.former spot is 0).2);
+    }
 
 pub returns-in-At : goal.returns-in-At
 returns-in-At c =
@@ -53,13 +58,13 @@ returns-in-At c =
 pub write-requires-in-Free : goal.write-requires-in-Free
 write-requires-in-Free c = omega (arith, c.in-Free.ensures.0, c.as_slice.ensures.len, c.as_mut_slice-in-Free.ensures.len)
 
-pub overflow-add-self : goal.overflow-add-self
-overflow-add-self c =
+pub overflow_add-self : goal.overflow_add-self
+overflow_add-self c =
     let s = c.args.self.now in
     omega (arith, s.counted, kept-le (vec_items s.places), s.long, s.few)
 
-pub invariant-of-self-in-Free : goal.invariant-of-self-in-Free
-invariant-of-self-in-Free c =
+pub invariant_of-self-in-Free : goal.invariant_of-self-in-Free
+invariant_of-self-in-Free c =
     let s = c.args.self.now in
     let ps = vec_items s.places in
     let e : Entry = record { id = c.args.id; number = c.args.number } in
@@ -67,10 +72,15 @@ invariant-of-self-in-Free c =
     let ws = c.write-in-Free.new.places in
     let wl : length ws ≡ s.places.len = omega (arith, c.write-in-Free.auto.places, c.as_mut_slice-in-Free.ensures.len) in
     let is = written ps c.as_mut_slice-in-Free.result.now ws (vec_items (with_items s.places ws)) c.in-Free.i (Some e) c.as_mut_slice-in-Free.ensures.value c.write-in-Free.ensures (with_items_is s.places ws wl) in
-    let p = put-free ps _ c.args.id c.args.number s.alone s.reached c.in-Free.i spot is in (
-      s.some,
-      (s.few, (p.0 ∙ s.long, (p.1, (p.2, (omega (arith, s.counted, (free_means ps _ c.args.id c.args.number s.alone s.reached c.in-Free.i spot is 0).2), tt))))),
-    )
+    let p = put-free ps _ c.args.id c.args.number s.alone s.reached c.in-Free.i spot is in
+    record {
+      some = s.some;
+      few = s.few;
+      long = p.0 ∙ s.long;
+      alone = p.1;
+      reached = p.2;
+      counted = omega (arith, s.counted, (free_means ps _ c.args.id c.args.number s.alone s.reached c.in-Free.i spot is 0).2);
+    }
 
 pub returns-in-Free : goal.returns-in-Free
 returns-in-Free c =

@@ -39,31 +39,27 @@ gone ps shown lent ws vs i k n a b is spot out =
     let here : get_or lent i None ≡ Some e = ap (λ zs. get_or zs i None) (b ∙ sym a) ∙ spot.1 in
     subst (λ zs. Removed (kept zs) (kept vs) k (Some n)) b (subst (λ zs. Removed (kept lent) (kept zs) k (Some n)) (sym is) (out e here))
 
-pub overflow-sub-self : goal.overflow-sub-self
-overflow-sub-self c =
+pub overflow_sub-self : goal.overflow_sub-self
+overflow_sub-self c =
     let s = c.args.self.now in
     let ws = c.take_out.new.places in
     omega (arith, s.counted, (gone (vec_items s.places) c.as_slice.result.now c.as_mut_slice.result.now ws ws c.in-At.i c.args.id c.in-At.former c.as_slice.ensures.value c.as_mut_slice.ensures.value refl c.in-At.ensures c.take_out.ensures.cases).2)
 
-pub invariant-of-self : goal.invariant-of-self
-invariant-of-self c =
+pub invariant_of-self : goal.invariant_of-self
+invariant_of-self c =
     let s = c.args.self.now in
     let ws = c.take_out.new.places in
     let wl : length ws ≡ s.places.len = omega (arith, c.take_out.auto.places, c.as_mut_slice.ensures.len) in
     let is : vec_items (with_items s.places ws) ≡ ws = with_items_is s.places ws wl in
-    let out = gone (vec_items s.places) c.as_slice.result.now c.as_mut_slice.result.now ws _ c.in-At.i c.args.id c.in-At.former c.as_slice.ensures.value c.as_mut_slice.ensures.value is c.in-At.ensures c.take_out.ensures.cases in (
-      s.some,
-      (
-        s.few,
-        (
-          ap length is ∙ wl,
-          (
-            subst Alone (sym is) c.take_out.ensures.alone,
-            (subst Reached (sym is) c.take_out.ensures.reached, (omega (arith, s.counted, out.2), tt)),
-          ),
-        ),
-      ),
-    )
+    let out = gone (vec_items s.places) c.as_slice.result.now c.as_mut_slice.result.now ws _ c.in-At.i c.args.id c.in-At.former c.as_slice.ensures.value c.as_mut_slice.ensures.value is c.in-At.ensures c.take_out.ensures.cases in
+    record {
+      some = s.some;
+      few = s.few;
+      long = ap length is ∙ wl;
+      alone = subst Alone (sym is) c.take_out.ensures.alone;
+      reached = subst Reached (sym is) c.take_out.ensures.reached;
+      counted = omega (arith, s.counted, out.2);
+    }
 
 pub returns-in-At : goal.returns-in-At
 returns-in-At c =
