@@ -54,10 +54,10 @@ by_number Like view (Some n) (Some y) there h = let c = there n refl in (c.0, c.
 
 -- ---- a record's mark
 module _ {T : Type 0} where
-  marked : (n : ℕ) (xs : List (Span T)) (o : Option (Span T)) → slice_get xs n ≡ o → IfOk {X = Unit {0}} {Y = ChangeBufferError} (cond (has (only handed o)) (Ok tt) (Err (NotHandedOut n))) (λ _. n < length xs)
+  marked : (n : ℕ) (xs : List (Span T)) (o : Option (Span T)) → slice_get xs n ≡ o → IfOk {T = Unit {0}} {E = ChangeBufferError} (cond (has (only handed o)) (Ok tt) (Err (NotHandedOut n))) (λ _. n < length xs)
   marked n xs None e = tt
   marked n xs (Some x) e =
-      elim (handed x) as (λ t. IfOk {X = Unit {0}} {Y = ChangeBufferError} (cond (has (cond t (Some x) None)) (Ok tt) (Err (NotHandedOut n))) (λ _. n < length xs))
+      elim (handed x) as (λ t. IfOk {T = Unit {0}} {E = ChangeBufferError} (cond (has (cond t (Some x) None)) (Ok tt) (Err (NotHandedOut n))) (λ _. n < length xs))
       [ true ↦ nth_within xs n x e | false ↦ tt ]
 
   pub handed-within : (n : ℕ) (xs : List (Span T)) (r : Result (Unit {0}) ChangeBufferError) → r ≡ handed_number n xs → IfOk r (λ _. n < length xs)

@@ -35,7 +35,7 @@ returns-else-count_one g c =
         segments = λ y e. ap (set ys c.args.seat) (c.count_one.ensures.after ∙ ap (counted_in c.args.id) (same_some (slice_get ys c.args.seat) _ y there e));
         entry =
             put_same (g.G.Index.held c.args.by_segment.now) c.args.id c.args.seat
-            (own_seat (g.G.Index.held c.args.by_segment.now) ys c.args.id c.args.seat c.requires.own_val _ there (sym c.if-count_one.ensures.value));
+            (own_seat (g.G.Index.held c.args.by_segment.now) ys c.args.id c.args.seat c.requires.own _ there (sym c.if-count_one.ensures.value));
       };
       capacity = refl;
     }
