@@ -1,7 +1,7 @@
 -- A chunk's tags: how many pairs they add at most, and that they set no field.
 use Rattle.std.proofs.Common.{◌≡◌, ℕ, ◌+◌, ◌≤◌, Bool, true, false, cond, List, [], ◌∷◌, ◌++◌, map, length, Some, None, codes, Option, sym, refl, ap, ◌∙◌, subst, append-nil, arith, lit≤, length-append}
 use Rattle.std.specs.Str.{bytes_eq}
-use Rattle.book.specs.Book.{Text, Field, service, origin, rule, limit, agent, Value, Writing, ◌≔◌, meta, metric, latest, blank, and_text, and_number, texts, numbers, Span, Segment, written, shows, write, Setup}
+use Rattle.book.specs.Book.{Text, Field, origin, rule, limit, agent, Value, Writing, ◌≔◌, meta, metric, latest, blank, and_text, and_number, texts, numbers, Span, Segment, written, shows, write, Setup}
 use Rattle.book.specs.Chunk.{segment_field, float_in, text_in, number_tag, text_tag, whole, root_tags, segment_tags, measured, base_service, process_tags, write_all}
 use Rattle.book.specs.Sound.{Within}
 use Rattle.book.specs.HandingOut.{Tagged}

@@ -3,7 +3,7 @@ use Rattle.std.specs.Prelude.{◌≡◌, ℕ, true, List, [], ◌∷◌, ◌++�
 use Rattle.vec_map.specs.Worked.{Worked as Worked-row}
 use Rattle.small_index.specs.Standing.{Worked as Worked-index}
 use Rattle.book.specs.Maps.{find}
-use Rattle.book.specs.Book.{service, Book, new_book}
+use Rattle.book.specs.Book.{Book, new_book}
 use Rattle.book.specs.Refusals.{told_answer, accepted}
 use Rattle.book.specs.Flush.{flush, buffer_after}
 use Rattle.book.specs.Counting.{count_in}

@@ -1,4 +1,6 @@
 // The plain book: its definitions stand in specs/, and each function here carries one of its laws.
+#![tactic(auto)]
+
 ghost use Rattle.book.specs.Cut.{CutsAgree};
 ghost use Rattle.book.specs.Reading.{LatestShows};
 ghost use Rattle.book.specs.Counting.{Counts_move};

@@ -1,5 +1,5 @@
 -- One operation with its head, and a whole buffer of them.
-use Rattle.std.proofs.Common.{◌≡◌, ℕ, ◌+◌, ◌%◌, ◌^◌, ◌<◌, ◌≤◌, min, true, List, ◌++◌, length, drop, replicate, IfOk, Some, None, Ok, Err, Option, Result, sym, refl, ap, ◌∙◌, subst, inl, inr, zero-le, arith}
+use Rattle.std.proofs.Common.{◌≡◌, ℕ, ◌+◌, ◌%◌, ◌^◌, ◌≤◌, min, true, List, ◌++◌, length, drop, replicate, IfOk, Some, None, Ok, Err, Option, Result, sym, refl, ap, ◌∙◌, subst, inl, inr, zero-le, arith}
 use Rattle.std.proofs.lemmas.Bool.{false≢true}
 use Rattle.index.specs.declared.entry.Entry.{Entry}
 use Rattle.index.specs.Held.{at}
@@ -9,8 +9,8 @@ use Rattle.layout.specs.OpCodes.{code}
 use Rattle.layout.specs.Reads.{number_at, Misses, Reads, ReadsOperation}
 use Rattle.book.specs.Maps.{find, has}
 use Rattle.book.specs.Book.{Text, Book}
-use Rattle.book.specs.Refusals.{because, unknown_opcode, Answer, accepted, refused}
-use Rattle.book.specs.Actions.{Out, Act, ◌>>=◌, the, times, read, settled}
+use Rattle.book.specs.Refusals.{because, unknown_opcode, refused}
+use Rattle.book.specs.Actions.{Out, ◌>>=◌, the, times, read, settled}
 use Rattle.book.specs.Acts.{Ending, reached, turned_down, Ended, Acts}
 use Rattle.book.specs.Flush.{table, perform, operation, operations, flush}
 use Rattle.book.specs.Flush as book
@@ -20,7 +20,7 @@ use Rattle.tables.specs.Store.{Store, free}
 use Rattle.tables.specs.InOrder.{InOrder}
 use Rattle.tables.specs.Shows.{Shows}
 use Rattle.recorder.specs.Answers.{refusal, answer}
-use Rattle.operations.specs.Done.{RecordsKept, SpansKept, ending, gone}
+use Rattle.operations.specs.Done.{SpansKept, ending, gone}
 use Rattle.operations.proofs.Keeping.{records-same}
 use Rattle.interpret.specs.Creation.{fields_of}
 use Rattle.interpret.specs.Played.{Played}

@@ -1,6 +1,5 @@
 -- Operations of the book, by their parts.
-use Rattle.std.proofs.Common.{◌≡◌, ℕ, List, length, drop, Some, None, Ok, Err, Result, sym, refl, ap, ◌∙◌, subst, inl}
-use Rattle.std.specs.List.{slice_get}
+use Rattle.std.proofs.Common.{◌≡◌, ℕ, List, drop, Some, None, Err, Result, sym, refl, ap, ◌∙◌, subst, inl}
 use Rattle.index.specs.Held.{at}
 use Rattle.refusals.specs.declared.ChangeBufferError.{ChangeBufferError}
 use Rattle.refusals.specs.declared.ChangeBufferError.TheVariants.{SpanNotFound}
@@ -9,9 +8,8 @@ use Rattle.book.specs.Book.{Text, Book}
 use Rattle.book.specs.Book as book
 use Rattle.book.specs.Refusals.{because, span_not_found}
 use Rattle.book.specs.Actions.{Act, ◌>>=◌, look, the, times, read}
-use Rattle.book.specs.Acts.{Ending, reached, turned_down, Ended, Acts}
-use Rattle.book.specs.Flush.{Operand, Attribute, S_S, S_F, create, on_span, on_segment, batch, live_span, read_attribute, write_segment, set_attribute, make, perform}
-use Rattle.book.specs.Flush as flush
+use Rattle.book.specs.Acts.{Ending, turned_down, Ended, Acts}
+use Rattle.book.specs.Flush.{Operand, Attribute, S_S, S_F, create, on_segment, live_span, read_attribute, write_segment, set_attribute, make, perform}
 use Rattle.book.proofs.Acted.{acts-from, acts_as, acts-find, acts-missing, acts_stop}
 use Rattle.book.proofs.Boths.{both-left-none}
 use Rattle.tables.specs.Store.{Store, chained, span_at, free}

@@ -1,4 +1,6 @@
 // Indexes: finite maps from 64-bit ids to record numbers, with a capacity.
+#![tactic(auto)]
+
 ghost use Rattle.std.specs.Prelude.{◌≡◌, ℕ, ◌≤◌, List, [], length, None, OnErr};
 ghost use Rattle.index.specs.declared.entry.Entry.{Entry};
 ghost use Rattle.index.specs.Held.{at, Once, Put, Removed};

@@ -1,16 +1,16 @@
 -- A create's reads against the book's.
-use Rattle.std.proofs.Common.{◌≡◌, ℕ, ◌+◌, ◌*◌, ◌/◌, ◌%◌, ◌^◌, List, [], ◌∷◌, ℤ, IfOk, Ok, Err, Result, sym, refl, ap, ◌∙◌, subst, w64, to_z}
+use Rattle.std.proofs.Common.{◌≡◌, ℕ, ◌+◌, ◌*◌, ◌^◌, List, [], ◌∷◌, ℤ, IfOk, Ok, Err, Result, sym, refl, ap, ◌∙◌, subst, w64, to_z}
 use native.Mathlib.Nat.{mod-add-div}
 use Rattle.refusals.specs.declared.ChangeBufferError.{ChangeBufferError}
 use Rattle.layout.specs.declared.utils.TraceId.{TraceId}
 use Rattle.layout.specs.Reads.{number_at, Misses, Reads}
 use Rattle.layout.specs.Traces.{words}
-use Rattle.book.specs.Book.{Text, Field, trace, parent, service, name, resource, type, start, duration, error, origin, rule, limit, agent, Value, text, word, int, Writing, ◌≔◌, Book}
+use Rattle.book.specs.Book.{Text, Field, trace, parent, Value, text, word, int, Writing, ◌≔◌, Book}
 use Rattle.book.specs.Refusals.{Refusal}
 use Rattle.book.specs.Actions.{Out, went, stopped, Act, on, ◌>>=◌, give, read}
 use Rattle.book.specs.Acts.{reached, turned_down, Acts}
 use Rattle.book.specs.Flush.{Operand, S, I, read_text, read_operand, read_fields, create, make, perform}
-use Rattle.book.proofs.Acted.{acts_as, acts_then, acts_stop, acts-give}
+use Rattle.book.proofs.Acted.{acts_then, acts_stop, acts-give}
 use Rattle.recorder.specs.Answers.{refusal}
 use Rattle.operations.specs.declared.values.Making.{Making}
 use Rattle.operations.specs.Made.{Gives}
@@ -18,7 +18,7 @@ use Rattle.operations.proofs.Writing.{by_field}
 use Rattle.interpret.specs.declared.creation.Extra.{Extra}
 use Rattle.interpret.specs.declared.creation.Extra.TheVariants.{Bare, Named, Full}
 use Rattle.interpret.specs.declared.creation.MadeFields.{MadeFields}
-use Rattle.interpret.specs.Creation.{fields_of, read_create, fields_written, BlankBut, RestBlank}
+use Rattle.interpret.specs.Creation.{read_create, fields_written, BlankBut, RestBlank}
 use Rattle.interpret.proofs.Reading.{number_reads, number-misses}
 
 module _ (buffer : List ℕ) (P : Book → Type 0) where

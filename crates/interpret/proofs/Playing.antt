@@ -1,6 +1,5 @@
 -- Operations that read what they write, and then write it.
-use Rattle.std.proofs.Common.{◌≡◌, ℕ, ◌+◌, List, ℤ, Ok, Err, Result, sym, refl, ap, ◌∙◌, subst, w32, w64, to_z}
-use lib.Ieee.{Float}
+use Rattle.std.proofs.Common.{◌≡◌, ℕ, List, ℤ, Ok, Err, Result, sym, subst, w32, w64, to_z}
 use Rattle.refusals.specs.declared.ChangeBufferError.{ChangeBufferError}
 use Rattle.layout.specs.Reads.{number_at, Misses, Reads}
 use Rattle.book.specs.Book.{Text, Field, error, text, int, Writing, ◌≔◌, meta, metric, Book}

@@ -1,7 +1,6 @@
 -- Reads of the code against the book's.
-use Rattle.std.proofs.Common.{◌≡◌, ℕ, ◌+◌, ◌<◌, ◌≤◌, List, length, get_or, Some, None, Ok, Err, Option, sym, refl, ap, ◌∙◌, subst, inl, inr}
+use Rattle.std.proofs.Common.{◌≡◌, ℕ, ◌+◌, ◌≤◌, List, length, get_or, Some, None, Ok, Err, Option, sym, refl, ap, ◌∙◌, subst, inl, inr}
 use lib.Ieee.{Float, binary64, of_bits}
-use Rattle.std.specs.List.{slice_get}
 use Rattle.std.proofs.lemmas.List.{get_or_past}
 use Rattle.std.proofs.lemmas.Option.{slice_get-get_or, slice_get_past}
 use Rattle.std.proofs.lemmas.Bool.{cases_lt}
@@ -9,7 +8,7 @@ use Rattle.index.proofs.Entries.{none-some}
 use Rattle.refusals.specs.declared.ChangeBufferError.{ChangeBufferError}
 use Rattle.refusals.specs.declared.ChangeBufferError.TheVariants.{OutOfOrder, TooManyDefaults, KeyBeyond, NoSegment, NotHandedOut, ListShort, SpanNotFound, ReadOutOfBounds, UnknownOpcode, StringNotFound, NoRecord, NoSegmentRecord, RowFull}
 use Rattle.refusals.specs.Told as code
-use Rattle.layout.specs.Reads.{number_at, Misses, Reads, ReadsString, Lacks}
+use Rattle.layout.specs.Reads.{number_at, Misses, Reads, ReadsString}
 use Rattle.book.specs.Book.{Text, bits_of, Book}
 use Rattle.book.specs.Refusals.{Refusal, because, read_out_of_bounds, string_not_found, told}
 use Rattle.book.specs.Actions.{◌>>=◌, give, look, the, read}

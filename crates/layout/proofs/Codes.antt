@@ -1,8 +1,8 @@
 -- Opcodes and their numbers: one number for each opcode, all of them at most 16.
-use Rattle.std.proofs.Common.{◌≡◌, ℕ, ◌≤◌, List, [], ◌∷◌, get_or, Ok, Err, sym, refl, ap, ◌∙◌, arith}
+use Rattle.std.proofs.Common.{◌≡◌, ◌≤◌, List, [], ◌∷◌, get_or, Ok, Err, sym, refl, ap, ◌∙◌, arith}
 use Rattle.layout.specs.declared.operation.OpCode.{OpCode}
 use Rattle.layout.specs.declared.operation.OpCode.TheVariants.{BatchSetMeta, BatchSetMetric, Create, CreateSpan, CreateSpanFull, SetDuration, SetError, SetMetaAttr, SetMetricAttr, SetName, SetResourceName, SetServiceName, SetStart, SetTraceMetaAttr, SetTraceMetricsAttr, SetTraceOrigin, SetType}
-use Rattle.layout.specs.OpCodes.{Names, NamesOnly, code}
+use Rattle.layout.specs.OpCodes.{NamesOnly, code}
 
 abbrev all : List OpCode
 all =

@@ -1,8 +1,7 @@
 -- A create: the questions that it asks, what it leaves, and the book.
-use Rattle.std.proofs.Common.{◌≡◌, ℕ, zero, suc, ◌+◌, ◌<◌, ◌≤◌, Bool, true, false, cond, not, ◌||◌, ltb, ◌⊎◌, List, [], ◌∷◌, length, take, set, is_some, Some, None, Ok, Err, Decides, Option, sym, refl, ap, ◌∙◌, subst, inl, inr, le_of_suc-le-suc, not-suc-le-zero, arith, lit≤}
+use Rattle.std.proofs.Common.{◌≡◌, ℕ, zero, suc, ◌+◌, ◌<◌, ◌≤◌, Bool, true, false, cond, not, ◌⊎◌, List, [], ◌∷◌, length, take, set, is_some, Some, None, Ok, Err, Decides, Option, sym, refl, ap, ◌∙◌, subst, inl, inr, le_of_suc-le-suc, not-suc-le-zero, arith, lit≤}
 use Rattle.std.specs.List.{slice_get}
-use Rattle.std.proofs.lemmas.Option.{slice_get-get_or}
-use Rattle.std.proofs.lemmas.Bool.{false≢true, both_ways, cases_lt, cases_Bool, lt-ltb, le-ltb, ltb-false, not-true, or_left, or_right, or_from, not_from_true}
+use Rattle.std.proofs.lemmas.Bool.{false≢true, both_ways, cases_lt, cases_Bool, lt-ltb, le-ltb, ltb-false, not-true, or_left, or_right, or_from}
 use Rattle.vec_map.specs.Tables.{row, OthersStay}
 use Rattle.index.specs.declared.entry.Entry.{Entry}
 use Rattle.index.specs.Held.{at, Once}
@@ -14,21 +13,21 @@ use Rattle.book.specs.Book.{Text, Writing, count, Book, with_live, with_segments
 use Rattle.book.specs.Book as book
 use Rattle.book.specs.Refusals.{no_record, no_segment_record}
 use Rattle.book.specs.Actions.{fault, went, stopped, ◌>>=◌, look, ask, change}
-use Rattle.book.specs.Flush.{record_for, segment_record_of, segment_record_for, one_more, default_writings, made, created_in, make}
+use Rattle.book.specs.Flush.{record_for, segment_record_of, segment_record_for, one_more, made, created_in, make}
 use Rattle.book.proofs.Boths.{both-left-none}
 use Rattle.tables.specs.declared.span.Mark.{Mark}
 use Rattle.tables.specs.declared.span.Mark.TheVariants.{Free, Live, HandedOut}
 use Rattle.tables.specs.declared.span.Span.{Span}
 use Rattle.tables.specs.declared.segment.Segment.{Segment}
 use Rattle.tables.specs.declared.settings.Settings.{Settings}
-use Rattle.tables.specs.Store.{Store, store, chained, tally, is_live, is_free, live, handed, free, stands, live_key, standing_key, span_at, segment_at}
+use Rattle.tables.specs.Store.{Store, store, chained, tally, is_live, is_free, live, free, stands, live_key, standing_key, span_at, segment_at}
 use Rattle.tables.specs.InOrder.{InOrder}
 use Rattle.tables.specs.Shows.{LikeSpan, LikeSegment, Shows}
 use Rattle.tables.proofs.Places.{nth_within}
 use Rattle.operations.specs.declared.values.Making.{Making}
-use Rattle.operations.specs.Done.{Unused, gone, RowsMoved, HeldWithin, Done}
-use Rattle.operations.specs.Made.{NoneUnused, RecordFor, NoRecordFor, Puts, Roomy, SameSettings, CanGrow, SeatFor, NoSeat, made_span, new_segment, one_counted, counted_in, Makes, Enters, Gives}
-use Rattle.operations.proofs.Keeping.{records-same, records-set}
+use Rattle.operations.specs.Done.{gone, RowsMoved, HeldWithin, Done}
+use Rattle.operations.specs.Made.{RecordFor, NoRecordFor, Puts, Roomy, SameSettings, CanGrow, SeatFor, NoSeat, made_span, new_segment, one_counted, counted_in, Makes, Enters, Gives}
+use Rattle.operations.proofs.Keeping.{records-set}
 use Rattle.operations.proofs.Counting.{held-count, tally_as, three, some_of, none_of, all_of, fewer_of}
 use Rattle.operations.proofs.Spans.{span-order, span-shown, span_own}
 use Rattle.operations.proofs.Segments.{seat_stands, seat_order, seat_shown, seat_own}

@@ -1,14 +1,13 @@
 -- What is made of a span and of a segment, against the book's.
-use Rattle.std.proofs.Common.{◌≡◌, ℕ, suc, ◌+◌, ◌-◌, ◌<◌, true, false, cond, List, [], ◌∷◌, ◌++◌, map, reverse, length, take, Some, None, sym, refl, ap, ◌∙◌, subst, arith}
+use Rattle.std.proofs.Common.{◌≡◌, ℕ, ◌<◌, false, List, [], ◌∷◌, ◌++◌, map, reverse, take, Some, None, sym, refl, ap, ◌∙◌, arith}
 use mathlib.Core.List.{reverse-cons}
 use Rattle.std.proofs.lemmas.Bool.{lt-ltb, cond-true, cond-false}
 use Rattle.book.specs.Book.{Text, Field, Value, Writing, meta, blank, latest, and_text, and_number, row, texts, numbers, count}
 use Rattle.book.specs.Book as book
 use Rattle.book.specs.Flush.{one_more, default_writings}
-use Rattle.book.proofs.Rows.{text_of, number_of, adds_text, adds_number, in_order, row-append, row-reverse, texts_of_texts, numbers_of_texts, latest-append}
-use Rattle.tables.specs.declared.span.Span.{Span}
+use Rattle.book.proofs.Rows.{text_of, number_of, adds_text, adds_number, row-append, row-reverse, texts_of_texts, numbers_of_texts, latest-append}
 use Rattle.tables.specs.declared.segment.Segment.{Segment}
-use Rattle.tables.specs.Store.{Rowed, stands}
+use Rattle.tables.specs.Store.{stands}
 use Rattle.tables.specs.Shows.{text_pair, span_field, segment_field, LikeSpan, LikeSegment}
 use Rattle.operations.specs.declared.values.Making.{Making}
 use Rattle.operations.specs.Made.{made_span, new_segment, one_counted, counted_in, Gives}

@@ -1,5 +1,5 @@
 -- One writing to a segment.
-use Rattle.std.proofs.Common.{◌≡◌, ℕ, ◌+◌, ◌*◌, ◌<◌, ◌≤◌, Bool, true, false, not, ◌⊎◌, List, [], ◌∷◌, ◌++◌, map, length, take, set, Some, None, Ok, Err, Option, sym, refl, ap, ◌∙◌, subst, inl, inr, arith}
+use Rattle.std.proofs.Common.{◌≡◌, ℕ, ◌+◌, ◌<◌, ◌≤◌, true, false, not, List, [], ◌∷◌, ◌++◌, map, length, take, set, Some, None, Ok, Err, Option, sym, refl, ap, ◌∙◌, subst, inl, arith}
 use Rattle.std.specs.List.{slice_get}
 use Rattle.std.proofs.lemmas.Bool.{lt-ltb, le-ltb}
 use Rattle.vec_map.specs.declared.head.Head.{Head}
@@ -16,7 +16,7 @@ use Rattle.book.specs.Actions.{fault, went, stopped, ◌>>=◌, give, look, ask,
 use Rattle.book.specs.Flush.{write_found, write_segment}
 use Rattle.book.proofs.Boths.{both-left-none}
 use Rattle.tables.specs.declared.segment.Segment.{Segment}
-use Rattle.tables.specs.Store.{Store, store, Rowed, chained, stands, standing_key, segment_at, free}
+use Rattle.tables.specs.Store.{Store, store, Rowed, chained, standing_key, segment_at, free}
 use Rattle.tables.specs.InOrder.{InOrder}
 use Rattle.tables.specs.Shows.{text_pair, number_pair, LikeSegment, Shows}
 use Rattle.tables.proofs.Places.{nth_within}

@@ -1,5 +1,5 @@
 -- One segment record changes, with its rows and its id's entry in the index: the order, and the book.
-use Rattle.std.proofs.Common.{◌≡◌, ℕ, ◌+◌, ◌*◌, ◌<◌, ◌≤◌, Bool, true, false, cond, ltb, ◌⊎◌, List, length, take, set, is_some, Some, None, Option, sym, refl, ap, ◌∙◌, subst, inl, inr, length-set}
+use Rattle.std.proofs.Common.{◌≡◌, ℕ, ◌+◌, ◌<◌, ◌≤◌, Bool, true, false, cond, ltb, ◌⊎◌, List, length, take, set, is_some, Some, None, sym, refl, ap, ◌∙◌, inl, inr, length-set}
 use Rattle.std.specs.Option.{option_map}
 use Rattle.std.specs.List.{slice_get}
 use Rattle.std.proofs.lemmas.Bool.{lt-ltb, ltb-true}
@@ -18,7 +18,7 @@ use Rattle.tables.specs.InOrder.{SegmentLimits, InOrder}
 use Rattle.tables.specs.Shows.{segment_view, LikeSegment, Shows}
 use Rattle.tables.proofs.Places.{nth_within, nth_set-same}
 use Rattle.operations.specs.Made.{Puts}
-use Rattle.operations.proofs.Taking.{key-is, apart, kept_set, shown-put, other-cell, other-held}
+use Rattle.operations.proofs.Taking.{key-is, apart, kept_set, shown-put, other-held}
 use Rattle.operations.proofs.Spans.{lengths_same}
 
 -- a segment that stands has a key

@@ -1,13 +1,13 @@
 -- One span record changes, with its rows and its id's entry in the index: the order, and the book.
-use Rattle.std.proofs.Common.{◌≡◌, ℕ, ◌+◌, ◌*◌, ◌<◌, ◌≤◌, Bool, true, false, cond, ◌⊎◌, List, map, length, take, set, is_some, Some, None, Option, sym, refl, ap, ◌∙◌, subst, inl, inr, arith, length-set}
+use Rattle.std.proofs.Common.{◌≡◌, ℕ, ◌+◌, ◌≤◌, false, cond, ◌⊎◌, List, map, length, take, set, is_some, Some, None, sym, refl, ap, ◌∙◌, subst, inl, inr, length-set}
 use Rattle.std.specs.Option.{option_map}
 use Rattle.std.specs.List.{slice_get}
 use Rattle.index.specs.declared.entry.Entry.{Entry}
 use Rattle.index.specs.Held.{at}
-use Rattle.index.proofs.Entries.{none-some, same_some}
+use Rattle.index.proofs.Entries.{none-some}
 use Rattle.vec_map.specs.Tables.{row, OthersStay}
 use Rattle.book.specs.Limits.{span_text_limit, span_number_limit, most_spans, span_text_row, span_number_row}
-use Rattle.book.specs.Maps.{Map, find, put}
+use Rattle.book.specs.Maps.{find, put}
 use Rattle.book.specs.Book.{Text, Book, with_live}
 use Rattle.book.specs.Book as book
 use Rattle.book.proofs.Boths.{both_left}
@@ -15,10 +15,10 @@ use Rattle.tables.specs.declared.span.Mark.{Mark}
 use Rattle.tables.specs.declared.span.Mark.TheVariants.{Free, Live, HandedOut}
 use Rattle.tables.specs.declared.span.Span.{Span}
 use Rattle.tables.specs.declared.settings.Settings.{Settings}
-use Rattle.tables.specs.Store.{Store, store, Rowed, only, chained, is_live, is_handed, live, handed, live_key, span_at}
+use Rattle.tables.specs.Store.{Store, store, Rowed, only, chained, is_live, is_handed, handed, live_key, span_at}
 use Rattle.tables.specs.InOrder.{Within, Lengths, OthersInOrder, SpanLimits, InOrder}
 use Rattle.tables.specs.Shows.{text_pair, live_view, handed_view, LikeSpan, Shows}
-use Rattle.tables.proofs.Places.{nth_within, nth_set-same, nth_set-other}
+use Rattle.tables.proofs.Places.{nth_within, nth_set-same}
 use Rattle.operations.specs.Made.{Puts, SameSettings}
 use Rattle.operations.proofs.Taking.{key-is, apart, kept_set, shown-put, other-cell, other-held, tally-set, only_not, shown_aside}
 

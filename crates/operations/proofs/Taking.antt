@@ -1,5 +1,5 @@
 -- A record is taken for an id: its own, or one that is in no use.
-use Rattle.std.proofs.Common.{◌≡◌, ℕ, zero, suc, ◌+◌, Bool, true, false, cond, ◌⊎◌, List, [], ◌∷◌, length, set, is_some, Some, None, Option, sym, refl, ap, ◌∙◌, subst, inl, inr, arith}
+use Rattle.std.proofs.Common.{◌≡◌, ℕ, zero, suc, ◌+◌, Bool, false, cond, ◌⊎◌, List, [], ◌∷◌, length, set, is_some, Some, None, Option, sym, refl, ap, ◌∙◌, subst, inl, inr, arith}
 use Rattle.std.specs.Option.{option_map}
 use Rattle.std.specs.List.{slice_get}
 use Rattle.std.proofs.lemmas.Bool.{cases_eq}
@@ -7,7 +7,7 @@ use Rattle.index.specs.declared.entry.Entry.{Entry}
 use Rattle.index.specs.Held.{at}
 use Rattle.index.specs.Holding.{Holds}
 use Rattle.index.proofs.Entries.{none-some, same_some}
-use Rattle.book.specs.Maps.{Map, find, put, Both}
+use Rattle.book.specs.Maps.{Map, find, put}
 use Rattle.book.proofs.Maps.{find-put, find-put-other, length-put, length-new, distinct_put}
 use Rattle.book.proofs.Boths.{both_some, both-none, both-same, both_left, both-left-none}
 use Rattle.tables.specs.Store.{chained, key_at, only, tally}

@@ -1,5 +1,5 @@
 -- One writing to a live span.
-use Rattle.std.proofs.Common.{◌≡◌, ℕ, ◌+◌, ◌*◌, ◌<◌, ◌≤◌, Bool, true, false, cond, ltb, ◌⊎◌, List, [], ◌∷◌, ◌++◌, map, length, take, drop, set, Some, None, Ok, Err, Option, Result, sym, refl, ap, ◌∙◌, subst, inl, inr, mul-le-mul_right, add-mul, one-mul, arith, length-drop}
+use Rattle.std.proofs.Common.{◌≡◌, ℕ, ◌+◌, ◌*◌, ◌<◌, ◌≤◌, true, false, cond, List, [], ◌∷◌, ◌++◌, map, length, take, drop, set, Some, None, Ok, Err, Option, sym, refl, ap, ◌∙◌, subst, inl, inr, mul-le-mul_right, add-mul, one-mul, arith, length-drop}
 use lib.ListN.{length-map}
 use Rattle.std.specs.List.{slice_get}
 use Rattle.std.proofs.lemmas.List.{map-append, length-take-le}
@@ -23,7 +23,7 @@ use Rattle.tables.specs.declared.span.Mark.TheVariants.{Free, Live, HandedOut}
 use Rattle.tables.specs.declared.span.Span.{Span}
 use Rattle.tables.specs.Store.{Store, store, Rowed, chained, live_key, is_live, is_free, free}
 use Rattle.tables.specs.InOrder.{Within, InOrder}
-use Rattle.tables.specs.Shows.{text_pair, number_pair, span_field, LikeSpan, Shows}
+use Rattle.tables.specs.Shows.{text_pair, number_pair, LikeSpan, Shows}
 use Rattle.tables.proofs.Places.{nth_within}
 use Rattle.recorder.specs.Answers.{refusal}
 use Rattle.operations.specs.declared.values.SpanField.{SpanField}

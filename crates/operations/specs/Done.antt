@@ -1,6 +1,6 @@
 -- What every operation promises: the order stays, the book's action ends so in a book that is shown then, records are kept,
 -- and a row's mark moves only where a pair is inserted or the record is made.
-use Rattle.std.specs.Prelude.{◌≡◌, ℕ, ◌<◌, Bool, true, false, not, ◌⊎◌, List, length, Some, None, Ok, Err, Option, Result}
+use Rattle.std.specs.Prelude.{◌≡◌, ℕ, ◌<◌, Bool, true, false, not, ◌⊎◌, List, length, Some, None, Ok, Err, Result}
 use Rattle.std.specs.List.{slice_get}
 use Rattle.vec_map.specs.declared.head.Head.{Head}
 use Rattle.index.specs.declared.entry.Entry.{Entry}
@@ -10,7 +10,6 @@ use Rattle.book.specs.Book.{Text, Writing}
 use Rattle.book.specs.Actions.{Act}
 use Rattle.book.specs.Acts.{Ending, reached, turned_down, Acts}
 use Rattle.book.specs.Flush.{write_span, write_segment}
-use Rattle.tables.specs.declared.span.Span.{Span}
 use Rattle.tables.specs.declared.segment.Segment.{Segment}
 use Rattle.tables.specs.Store.{Store, free, stands}
 use Rattle.tables.specs.InOrder.{InOrder}

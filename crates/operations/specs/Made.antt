@@ -1,5 +1,5 @@
 -- What a create takes and leaves: a record for the span, a record for its segment, and what is made of both.
-use Rattle.std.specs.Prelude.{◌≡◌, ℕ, ◌+◌, ◌<◌, ◌≤◌, Bool, true, false, cond, ◌⊎◌, List, [], length, take, pos, is_some, Some, None, Result, ◌≢◌, slice_set}
+use Rattle.std.specs.Prelude.{◌≡◌, ℕ, ◌+◌, ◌<◌, ◌≤◌, Bool, false, cond, ◌⊎◌, List, [], length, take, pos, is_some, Some, None, Result, ◌≢◌, slice_set}
 use Rattle.std.specs.List.{slice_get}
 use Rattle.vec_map.specs.Tables.{row, OthersStay}
 use Rattle.index.specs.declared.entry.Entry.{Entry}
@@ -12,7 +12,7 @@ use Rattle.tables.specs.declared.span.Mark.TheVariants.{Live}
 use Rattle.tables.specs.declared.span.Span.{Span}
 use Rattle.tables.specs.declared.segment.Segment.{Segment}
 use Rattle.tables.specs.declared.settings.Settings.{Settings}
-use Rattle.tables.specs.Store.{Store, store, stands}
+use Rattle.tables.specs.Store.{Store, stands}
 use Rattle.tables.specs.InOrder.{InOrder}
 use Rattle.tables.specs.Shows.{span_field}
 use Rattle.operations.specs.declared.values.Making.{Making}

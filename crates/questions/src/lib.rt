@@ -1,4 +1,6 @@
 // The questions: they are lent all tables and both indexes, and change nothing.
+#![tactic(auto)]
+
 pub mod inner;
 
 ghost use Rattle.std.specs.Prelude.{◌≡◌, ◌+◌, ◌<◌, length, IfOk, Ok, OnOk};

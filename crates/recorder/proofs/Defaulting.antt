@@ -1,5 +1,5 @@
 -- The call on the default pairs against the plain book.
-use Rattle.std.proofs.Common.{◌≡◌, ℕ, ◌+◌, ◌-◌, ◌<◌, ◌≤◌, true, false, leb, List, ◌++◌, map, length, take, drop, Ok, Err, Result, sym, refl, ap, ◌∙◌, subst, arith, length-append, length-drop, le-leb}
+use Rattle.std.proofs.Common.{◌≡◌, ℕ, ◌<◌, ◌≤◌, true, false, leb, List, ◌++◌, map, length, drop, Ok, Err, Result, sym, refl, ap, subst, arith, length-append, length-drop, le-leb}
 use borrow.Author.Tests.{lt-leb}
 use Rattle.std.proofs.lemmas.List.{length-map, take_at}
 use Rattle.refusals.specs.declared.ChangeBufferError.{ChangeBufferError}
@@ -8,7 +8,7 @@ use Rattle.book.specs.Book as book
 use Rattle.book.specs.Calls.{default_meta, step}
 use Rattle.tables.specs.declared.settings.Settings.{Settings}
 use Rattle.tables.specs.Store.{Store}
-use Rattle.tables.specs.InOrder.{InOrder, OthersInOrder}
+use Rattle.tables.specs.InOrder.{InOrder}
 use Rattle.tables.specs.Shows.{Shows, text_pair}
 use Rattle.recorder.specs.Answers.{answer}
 use Rattle.recorder.specs.Defaults.{with_count, with_defaults, Replaces, replaced}

@@ -1,5 +1,5 @@
 -- What holds of every call.
-use Rattle.std.proofs.Common.{◌≡◌, Bool, true, false, Decides, sym, refl, ◌∙◌}
+use Rattle.std.proofs.Common.{◌≡◌, Bool, false, Decides, sym, refl, ◌∙◌}
 use Rattle.tables.proofs.Deciding.{apart}
 use Rattle.book.specs.Book.{Text}
 use Rattle.book.specs.Calls.{Call}

@@ -1,5 +1,5 @@
 -- The call on a segment's decisions against the plain book.
-use Rattle.std.proofs.Common.{◌≡◌, ℕ, ◌<◌, List, length, get_or, take, set, Some, None, Ok, Err, Option, sym, refl, ap, ◌∙◌, subst, length-set}
+use Rattle.std.proofs.Common.{◌≡◌, ℕ, List, length, get_or, take, set, Some, None, Option, sym, refl, ap, ◌∙◌, subst, length-set}
 use lib.Ieee.{Float}
 use Rattle.std.proofs.lemmas.Option.{slice_get-get_or}
 use Rattle.std.specs.Option.{option_map}
@@ -7,11 +7,10 @@ use Rattle.std.specs.List.{slice_get}
 use Rattle.index.specs.Held.{at}
 use Rattle.index.proofs.Entries.{same_some}
 use Rattle.vec_map.specs.Tables.{row}
-use Rattle.book.specs.Maps.{find, put}
+use Rattle.book.specs.Maps.{find}
 use Rattle.book.specs.Book.{Text, Field, trace, parent, service, name, resource, type, start, duration, error, origin, rule, limit, agent, ◌≔◌, note, segment_shows, Book}
 use Rattle.book.specs.Book as book
 use Rattle.book.specs.Calls.{decisions, decision, step}
-use Rattle.book.specs.Calls as calls
 use Rattle.book.specs.Refusals.{because, no_segment, accepted, refused}
 use Rattle.book.proofs.Boths.{both_left, both-left-none}
 use Rattle.tables.specs.declared.segment.Segment.{Segment}
@@ -20,7 +19,7 @@ use Rattle.tables.specs.InOrder.{InOrder, Lengths, SegmentLimits}
 use Rattle.tables.specs.Shows.{Shows, LikeSegment, float_or_nothing, segment_field, segment_view}
 use Rattle.tables.proofs.Changing.{kept_set, found-apart, retold}
 use Rattle.tables.proofs.Places.{nth_within, nth_set-same, nth_set-other, chained-there}
-use Rattle.recorder.specs.Decisions.{decided, changed_there, changed_at, with_segments, decided_in}
+use Rattle.recorder.specs.Decisions.{decided, changed_there, changed_at, with_segments}
 use Rattle.recorder.specs.Performs.{Performs}
 
 -- the segment that the index finds

@@ -1,5 +1,5 @@
 -- Set-up against the plain book.
-use Rattle.std.proofs.Common.{◌≡◌, ℕ, List, [], length, Some, None, Option, sym, refl, ap, ◌∙◌, subst}
+use Rattle.std.proofs.Common.{◌≡◌, ℕ, List, [], length, Some, None, Option, refl, ap, subst}
 use Rattle.std.specs.List.{slice_get}
 use Rattle.index.specs.declared.entry.Entry.{Entry}
 use Rattle.book.specs.Book.{Text, Setup, new_book}
@@ -8,7 +8,7 @@ use Rattle.tables.specs.declared.span.Span.{Span}
 use Rattle.tables.specs.declared.segment.Segment.{Segment}
 use Rattle.tables.specs.declared.settings.Settings.{Settings}
 use Rattle.tables.specs.Store.{Store, store}
-use Rattle.tables.specs.InOrder.{Sized, Lengths, OthersInOrder}
+use Rattle.tables.specs.InOrder.{Sized}
 use Rattle.tables.specs.Shows.{Shows}
 use Rattle.tables.proofs.Emptied.{emptied}
 use Rattle.recorder.specs.Setup.{told_of, fresh, RowsStay}

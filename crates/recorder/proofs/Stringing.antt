@@ -1,20 +1,19 @@
 -- The calls on the string table against the plain book.
-use Rattle.std.proofs.Common.{◌≡◌, ℕ, ◌<◌, ◌≤◌, Bool, true, false, cond, ltb, List, length, set, Some, None, Ok, Err, Option, Result, sym, refl, ap, ◌∙◌, subst, inl, inr, length-set, le-ltb, lt-ltb}
+use Rattle.std.proofs.Common.{◌≡◌, ℕ, ◌<◌, ◌≤◌, true, false, ltb, List, length, set, Some, None, Ok, Err, Option, Result, sym, refl, ap, ◌∙◌, subst, inl, inr, length-set, le-ltb, lt-ltb}
 use Rattle.std.proofs.lemmas.List.{set_past}
 use Rattle.std.proofs.lemmas.Option.{slice_get_past}
 use Rattle.std.proofs.lemmas.Bool.{cases_eq, cases_lt}
 use Rattle.std.specs.List.{slice_get}
 use Rattle.refusals.specs.declared.ChangeBufferError.{ChangeBufferError}
-use Rattle.refusals.specs.declared.ChangeBufferError.TheVariants.{KeyBeyond}
 use Rattle.book.specs.Maps.{Map, find, put, remove}
 use Rattle.book.specs.Book.{Text, Setup, Book}
 use Rattle.book.specs.Book as book
-use Rattle.book.specs.Calls.{Call, string_insert, string_evict, step}
-use Rattle.book.specs.Refusals.{because, key_beyond, Answer, accepted, refused}
+use Rattle.book.specs.Calls.{string_insert, string_evict, step}
+use Rattle.book.specs.Refusals.{accepted}
 use Rattle.book.proofs.Maps.{find-put, find-put-other, find-remove, find-remove-other, remove_absent}
 use Rattle.tables.specs.Store.{Store}
 use Rattle.tables.specs.InOrder.{InOrder, OthersInOrder}
-use Rattle.tables.specs.Shows.{Shows, string_of, string_at, setup_of}
+use Rattle.tables.specs.Shows.{Shows, string_of, string_at}
 use Rattle.tables.proofs.Places.{nth_set-same, nth_set-other}
 use Rattle.recorder.specs.Answers.{answer}
 use Rattle.recorder.specs.Performs.{Performs}

@@ -1,5 +1,5 @@
 -- A segment's three sampling decisions, set together.
-use Rattle.std.specs.Prelude.{◌≡◌, ℕ, List, set, Some, None, Ok, Err, Option, Result, slice_set, Float}
+use Rattle.std.specs.Prelude.{ℕ, List, Some, None, Ok, Err, Option, Result, slice_set, Float}
 use Rattle.std.specs.List.{slice_get}
 use Rattle.index.specs.Held.{at}
 use Rattle.tables.specs.declared.segment.Segment.{Segment}

@@ -1,4 +1,6 @@
 // The recorder's public calls.
+#![tactic(auto)]
+
 pub mod decisions;
 pub mod defaults;
 pub mod inner;

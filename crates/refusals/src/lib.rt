@@ -1,4 +1,6 @@
 // The refusals of the recorder: each with its number and its values.
+#![tactic(auto)]
+
 ghost use Rattle.std.specs.Prelude.{◌≡◌, Some};
 ghost use Rattle.refusals.specs.Told.{said, told};
 

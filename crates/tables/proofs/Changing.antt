@@ -1,11 +1,11 @@
 -- One record changes and keeps its key: the index still holds just the keys, and the book's map changes there alone.
-use Rattle.std.proofs.Common.{◌≡◌, ℕ, List, length, set, Some, None, Option, sym, refl, ap, ◌∙◌, subst, inl, inr}
+use Rattle.std.proofs.Common.{◌≡◌, ℕ, List, set, Some, Option, sym, ap, ◌∙◌, subst, inl, inr}
 use Rattle.std.proofs.lemmas.Bool.{cases_eq}
 use Rattle.std.specs.List.{slice_get}
 use Rattle.index.specs.declared.entry.Entry.{Entry}
 use Rattle.index.specs.Held.{at}
 use Rattle.index.specs.Holding.{Holds}
-use Rattle.index.proofs.Entries.{none-some, same_some}
+use Rattle.index.proofs.Entries.{same_some}
 use Rattle.book.specs.Maps.{Map, find, put, Both}
 use Rattle.book.proofs.Maps.{find-put, find-put-other, distinct_put, length-put}
 use Rattle.tables.specs.Store.{chained, key_at}

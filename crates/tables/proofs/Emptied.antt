@@ -1,17 +1,14 @@
 -- A memory with every record free, no segment standing, no strings and empty indexes shows the new book.
-use Rattle.std.proofs.Common.{◌≡◌, ℕ, zero, suc, Bool, true, false, cond, ltb, List, [], ◌∷◌, length, Some, None, Option, sym, refl, ap, ◌∙◌, subst, lit≤}
-use Rattle.std.specs.Option.{option_map}
+use Rattle.std.proofs.Common.{◌≡◌, ℕ, suc, Bool, false, cond, ltb, List, [], ◌∷◌, length, Some, None, Option, sym, refl, ap, ◌∙◌, subst, lit≤}
 use Rattle.std.specs.List.{slice_get}
 use Rattle.index.specs.declared.entry.Entry.{Entry}
 use Rattle.index.specs.Held.{at}
 use Rattle.index.proofs.Entries.{none-some}
-use Rattle.book.specs.Maps.{find, Both}
 use Rattle.book.specs.Book.{Text, new_book}
 use Rattle.tables.specs.declared.span.Mark.TheVariants.{Free}
 use Rattle.tables.specs.declared.span.Span.{Span}
 use Rattle.tables.specs.declared.segment.Segment.{Segment}
-use Rattle.tables.specs.declared.settings.Settings.{Settings}
-use Rattle.tables.specs.Store.{Store, Rowed, chained, only, tally, is_live, is_handed, handed, stands, live_key, standing_key, key_at, span_at}
+use Rattle.tables.specs.Store.{Store, tally, is_live, is_handed, handed, live_key, standing_key}
 use Rattle.tables.specs.InOrder.{InOrder, Sized, KeptIn, Within, SpanLimits, SegmentLimits}
 use Rattle.tables.proofs.Deciding.{apart}
 use Rattle.tables.proofs.Places.{chained-there}

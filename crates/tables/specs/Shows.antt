@@ -1,6 +1,5 @@
 -- What the memory of a recorder shows of the plain book.
 use Rattle.std.specs.Prelude.{◌≡◌, ℕ, ◌+◌, ◌*◌, ◌^◌, List, [], map, length, take, pos, Some, None, Option, Float}
-use Rattle.std.specs.Option.{option_map}
 use Rattle.std.specs.List.{slice_get}
 use Rattle.index.specs.Held.{at}
 use Rattle.book.specs.Maps.{Map, find, Distinct, Both}
@@ -8,7 +7,6 @@ use Rattle.book.specs.Book.{Text, Field, trace, parent, service, name, resource,
 use Rattle.book.specs.Book as book
 use Rattle.tables.specs.declared.span.Span.{Span}
 use Rattle.tables.specs.declared.segment.Segment.{Segment}
-use Rattle.tables.specs.declared.settings.Settings.{Settings}
 use Rattle.tables.specs.Store.{Store, Rowed, only, chained, tally, handed, span_at, segment_at}
 use Rattle.tables.specs.InOrder.{InOrder}
 

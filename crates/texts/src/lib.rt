@@ -1,4 +1,6 @@
 // Texts: what every kind of text can do, by its bytes, and two kinds of it.
+#![tactic(auto)]
+
 ghost use Rattle.std.specs.Prelude.{◌≡◌, ℕ, ◌≤◌, List, length, Decides};
 ghost use Rattle.texts.specs.Words.{At, fixed};
 

@@ -1,9 +1,9 @@
 -- The steps of the loops over a row.
-use Rattle.std.proofs.Common.{◌≡◌, ℕ, zero, suc, ◌+◌, ◌-◌, ◌<◌, ◌≤◌, min, Bool, true, false, cond, ◌||◌, ◌⊎◌, List, [], ◌∷◌, ◌++◌, reverse, length, get_or, take, drop, set, Some, None, Option, sym, refl, ap, ◌∙◌, subst, inl, inr, ⊎_elim, le_of_suc-le-suc, not-suc-le-zero, arith, length-append, length-take}
+use Rattle.std.proofs.Common.{◌≡◌, ℕ, zero, suc, ◌+◌, ◌-◌, ◌<◌, ◌≤◌, min, Bool, true, false, cond, ◌||◌, List, [], ◌∷◌, ◌++◌, reverse, length, get_or, take, drop, set, Some, None, Option, sym, refl, ap, ◌∙◌, subst, ⊎_elim, le_of_suc-le-suc, not-suc-le-zero, arith, length-take}
 use borrow.Rule.Slice.PartMut.{post_of}
-use Rattle.std.proofs.lemmas.List.{take_all, take_at, drop_all, drop_more, get_or-take, get_or-drop, take_more, take_more_set, drop-set-lt, append_assoc, append-nil, get_or_default, take-append-drop, drop-drop, length-take-le, length-reverse}
+use Rattle.std.proofs.lemmas.List.{take_all, take_at, drop_all, drop_more, get_or-take, get_or-drop, take_more, take_more_set, drop-set-lt, append_assoc, append-nil, take-append-drop, drop-drop, length-reverse}
 use Rattle.std.proofs.lemmas.Bool.{cases_lt}
-use Rattle.vec_map.specs.Rows.{or_else, last_value, known, firsts, without_repeats, deduped_room}
+use Rattle.vec_map.specs.Rows.{or_else, last_value, known, firsts}
 
 pub take_min : {X : Type 0} (n : ℕ) (xs : List X) → take n xs ≡ take (min n (length xs)) xs
 take_min n xs = ⊎_elim

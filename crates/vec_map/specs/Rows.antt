@@ -1,5 +1,5 @@
 -- A row of pairs: its memory, how many pairs of it count, and its mark; the value of a key, and what each change leaves.
-use Rattle.std.specs.Prelude.{◌≡◌, ℕ, ◌+◌, Bool, true, false, cond, ◌||◌, List, [], ◌∷◌, ◌++◌, reverse, length, take, drop, set, Some, None, Ok, Err, Option, Result, nat_le, slice_set}
+use Rattle.std.specs.Prelude.{◌≡◌, ℕ, ◌+◌, Bool, true, false, cond, ◌||◌, List, [], ◌∷◌, ◌++◌, reverse, length, take, drop, Some, None, Ok, Err, Option, Result, nat_le, slice_set}
 
 -- what the sameness of keys is held to
 pub record Equivalence {K : Type 0} (same : K → K → Bool) : Type 0 where

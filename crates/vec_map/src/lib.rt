@@ -1,4 +1,6 @@
 // Pair maps: a row of pairs in lent memory, with a count and a mark, for every key that has a sameness.
+#![tactic(auto)]
+
 ghost use Rattle.std.specs.Prelude.{◌≡◌, ℕ};
 ghost use Rattle.std.specs.Option.{option_map};
 ghost use Rattle.vec_map.specs.Model.{row_of};

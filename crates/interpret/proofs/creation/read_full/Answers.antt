@@ -1,4 +1,4 @@
-use Rattle.std.proofs.Common.{◌≡◌, [], ◌∷◌, ℤ, sym, refl, subst, w64, to_z, of_z, rules}
+use Rattle.std.proofs.Common.{◌≡◌, [], ◌∷◌, ℤ, sym, subst, w64, to_z, of_z, rules}
 use Rattle.std.proofs.lemmas.Result.{err_from_is_err_and}
 use Rattle.layout.specs.Reads.{held}
 use Rattle.book.specs.Book.{name, service, resource, type, start, text, int, ◌≔◌}
@@ -7,7 +7,7 @@ use Rattle.book.specs.Flush.{S, I, read_fields}
 use Rattle.tables.specs.Shows.{Shows}
 use Rattle.recorder.specs.Answers.{refusal}
 use Rattle.recorder.specs.Strings.{with_strings}
-use Rattle.interpret.specs.declared.creation.Extra.TheVariants.{Named, Full}
+use Rattle.interpret.specs.declared.creation.Extra.TheVariants.{Full}
 use Rattle.interpret.specs.Creation.{fields_of}
 use Rattle.interpret.proofs.Reading.{text_reads, text_fails}
 use Rattle.interpret.proofs.Creations.{text_operand, text_operand_fails, time_operand, time_operand_fails, fields-none, fields_stop, fields-later, fields-more}

@@ -1,10 +1,4 @@
-use Rattle.std.proofs.Common.{◌≡◌, sym, refl, subst}
 use Rattle.layout.specs.Reads.{held}
-use Rattle.book.specs.Flush.{read_fields}
-use Rattle.interpret.specs.declared.creation.Extra.{Extra}
-use Rattle.interpret.specs.declared.creation.Extra.TheVariants.{Full}
-use Rattle.interpret.specs.Creation.{fields_of, made_writings, BlankBut}
-use Rattle.interpret.specs.Played.{ReadsAs}
 use Rattle.interpret.proofs.Creations.{fields-none, full-blank}
 use Rattle.interpret.proofs.creation.read_made_fields.Goals as goal
 

@@ -1,6 +1,5 @@
 use Rattle.std.proofs.lemmas.Result.{err_from_is_err_and}
 use Rattle.layout.specs.Reads.{held}
-use Rattle.tables.specs.Shows.{Shows}
 use Rattle.recorder.specs.Answers.{refusal}
 use Rattle.recorder.specs.Strings.{with_strings}
 use Rattle.interpret.proofs.Reading.{text_reads, text_fails}

@@ -1,4 +1,4 @@
-use Rattle.std.proofs.Common.{◌≡◌, ◌-◌, take, sym, ap, ◌∙◌, arith}
+use Rattle.std.proofs.Common.{◌≡◌, ◌-◌, take, ap, arith}
 use Rattle.std.proofs.lemmas.List.{take_all}
 use Rattle.layout.specs.Numbers.{le}
 use Rattle.layout.proofs.Little.{le_bound}

@@ -1,4 +1,4 @@
-use Rattle.std.proofs.Common.{◌≡◌, sym, refl, ap, ◌∙◌}
+use Rattle.std.proofs.Common.{sym, refl}
 use Rattle.book.specs.Calls.{decisions}
 use Rattle.tables.proofs.Places.{nth_within}
 use Rattle.recorder.proofs.Performing.{turned-away, no_order}

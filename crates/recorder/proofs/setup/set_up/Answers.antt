@@ -1,4 +1,4 @@
-use Rattle.std.proofs.Common.{◌≡◌, sym, refl, ap, ◌∙◌, subst}
+use Rattle.std.proofs.Common.{refl}
 use Rattle.recorder.proofs.Performing.{no_order}
 use Rattle.recorder.proofs.Starting.{started}
 use Rattle.recorder.proofs.setup.set_up.Goals as goal

@@ -1,5 +1,4 @@
 use Rattle.std.proofs.Common.{refl}
-use Rattle.tables.specs.Lent.{passed}
 use Rattle.book.specs.Calls.{string_insert}
 use Rattle.recorder.proofs.Performing.{turned-away, no_order}
 use Rattle.recorder.proofs.Stringing.{inserted}

@@ -1,4 +1,4 @@
-use Rattle.std.proofs.Common.{◌≡◌, ℕ, Bool, true, false, sym, refl, ◌∙◌, arith}
+use Rattle.std.proofs.Common.{◌≡◌, ℕ, true, false, sym, refl, ◌∙◌, arith}
 use lib.Ieee.{Float, nan, inf, fin, is_nan, to_bits, of_bits, of_fields, odd, size, binary64}
 use lib.Ieee.Bits.{nan_bits_is}
 use Rattle.vec_map.proofs.float.float_patterns.Goals as goal

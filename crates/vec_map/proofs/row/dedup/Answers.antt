@@ -1,4 +1,4 @@
-use Rattle.std.proofs.Common.{[], ◌++◌, reverse, length, take, drop, ap, ◌∙◌, rules}
+use Rattle.std.proofs.Common.{[], ◌++◌, reverse, length, take, drop, ap, ◌∙◌}
 use Rattle.vec_map.specs.Rows.{firsts}
 use Rattle.vec_map.proofs.Steps.{turned, turned_front}
 use Rattle.vec_map.proofs.row.dedup.Goals as goal

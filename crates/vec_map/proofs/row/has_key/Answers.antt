@@ -1,4 +1,4 @@
-use Rattle.std.proofs.Common.{◌<◌, length, take, sym, arith, length-take, rules}
+use Rattle.std.proofs.Common.{◌<◌, length, take, sym, arith, length-take}
 use Rattle.vec_map.proofs.Steps.{known_at, known_more, read_take}
 use Rattle.vec_map.proofs.row.has_key.Goals as goal
 

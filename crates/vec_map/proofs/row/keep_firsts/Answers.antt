@@ -1,4 +1,4 @@
-use Rattle.std.proofs.Common.{sym, ◌∙◌, arith, rules}
+use Rattle.std.proofs.Common.{sym, ◌∙◌, arith}
 use Rattle.vec_map.proofs.Steps.{going_known, going_new, ended}
 use Rattle.vec_map.proofs.row.keep_firsts.Goals as goal
 use Rattle.vec_map.proofs.row.keep_firsts.Goals.{then-not-has_key, else-not-has_key}

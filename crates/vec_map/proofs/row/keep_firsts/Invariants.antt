@@ -1,4 +1,4 @@
-use Rattle.std.proofs.Common.{◌≡◌, ◌≤◌, List, [], ◌++◌, take, drop}
+use Rattle.std.proofs.Common.{◌≡◌, ◌≤◌, [], ◌++◌, take, drop}
 use Rattle.vec_map.specs.Rows.{firsts}
 use Rattle.vec_map.proofs.row.keep_firsts.Given as goal
 

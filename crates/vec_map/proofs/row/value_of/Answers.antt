@@ -1,4 +1,4 @@
-use Rattle.std.proofs.Common.{◌≡◌, ◌+◌, ◌-◌, ◌<◌, cond, length, take, Some, sym, ap, ◌∙◌, arith, length-take, rules}
+use Rattle.std.proofs.Common.{◌≡◌, ◌+◌, ◌-◌, cond, take, Some, sym, ap, ◌∙◌, arith}
 use Rattle.vec_map.specs.Rows.{last_value}
 use Rattle.vec_map.proofs.Steps.{last_more, take_min}
 use Rattle.vec_map.proofs.row.value_of.Goals as goal

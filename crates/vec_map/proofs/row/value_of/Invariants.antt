@@ -1,4 +1,4 @@
-use Rattle.std.proofs.Common.{◌≡◌, ◌≤◌, min, length, take}
+use Rattle.std.proofs.Common.{◌≡◌, ◌≤◌, length, take}
 use Rattle.vec_map.specs.Rows.{last_value}
 use Rattle.vec_map.proofs.row.value_of.Given as goal
 

@@ -1,7 +1,6 @@
-use Rattle.std.proofs.Common.{◌≡◌, ◌+◌, ◌-◌, ◌*◌, true, not, ◌&&◌, length, take, drop, sym, ap, ◌∙◌, arith, length-drop, length-take, le-leb}
-use Rattle.vec_map.specs.Rows.{full, dedup_row}
-use Rattle.vec_map.specs.Tables.{headed, row, in_table}
-use Rattle.vec_map.proofs.TableRows.{changes, part-read}
+use Rattle.std.proofs.Common.{◌≡◌, length, ◌∙◌, arith, length-drop, length-take}
+use Rattle.vec_map.specs.Rows.{dedup_row}
+use Rattle.vec_map.proofs.TableRows.{changes}
 use Rattle.vec_map.proofs.table.dedup_at.Goals as goal
 
 pub returns-in-Some : goal.returns-in-Some

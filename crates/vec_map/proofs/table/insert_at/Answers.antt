@@ -1,4 +1,4 @@
-use Rattle.std.proofs.Common.{◌≡◌, ◌+◌, ◌-◌, ◌*◌, true, not, ◌&&◌, length, take, drop, sym, ap, ◌∙◌, arith, length-drop, length-take, le-leb}
+use Rattle.std.proofs.Common.{◌≡◌, ◌+◌, ◌*◌, true, not, ◌&&◌, length, sym, ap, ◌∙◌, arith, length-drop, length-take, le-leb}
 use Rattle.vec_map.specs.Rows.{full, insert_row}
 use Rattle.vec_map.specs.Tables.{headed, row, in_table}
 use Rattle.vec_map.proofs.TableRows.{changes, part-read}

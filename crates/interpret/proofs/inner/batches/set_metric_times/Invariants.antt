@@ -1,5 +1,4 @@
-use Rattle.std.proofs.Common.{◌≡◌, Some, Ok}
-use Rattle.index.specs.Held.{at}
+use Rattle.std.proofs.Common.{Ok}
 use Rattle.layout.specs.Reads.{held}
 use Rattle.book.specs.Actions.{times}
 use Rattle.book.specs.Flush.{set_attribute, S_F}

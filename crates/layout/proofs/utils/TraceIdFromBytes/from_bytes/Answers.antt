@@ -1,4 +1,4 @@
-use Rattle.std.proofs.Common.{◌≡◌, ◌+◌, ◌*◌, ◌/◌, ◌%◌, ◌^◌, take, drop, ap, ◌∙◌, arith}
+use Rattle.std.proofs.Common.{◌≡◌, ◌/◌, ◌%◌, ◌^◌, take, ap, arith}
 use Rattle.std.proofs.lemmas.List.{take-take, drop-take}
 use Rattle.layout.specs.Numbers.{le}
 use Rattle.layout.proofs.Little.{le_parts}

@@ -1,9 +1,7 @@
-use Rattle.std.proofs.Common.{◌≡◌, true, get_or, set, sym, refl, ap, ◌∙◌, inl, inr}
+use Rattle.std.proofs.Common.{set, sym, refl, ap, ◌∙◌}
 use Rattle.std.specs.List.{slice_get}
 use Rattle.std.proofs.lemmas.Option.{slice_get-get_or}
-use Rattle.std.proofs.lemmas.Bool.{both_ways}
 use Rattle.index.proofs.Entries.{same_some}
-use Rattle.operations.specs.Done.{gone}
 use Rattle.operations.specs.Made.{counted_in}
 use Rattle.operations.proofs.Taking.{put_same}
 use Rattle.operations.proofs.Creating.{own_seat}

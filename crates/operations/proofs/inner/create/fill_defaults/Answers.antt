@@ -1,4 +1,4 @@
-use Rattle.std.proofs.Common.{◌≡◌, ◌+◌, ◌*◌, length, take, ap, ◌∙◌, arith, length-drop, length-take}
+use Rattle.std.proofs.Common.{◌≡◌, length, take, ap, ◌∙◌, arith, length-drop, length-take}
 use Rattle.vec_map.specs.Tables.{row}
 use Rattle.vec_map.proofs.TableRows.{row_put, row_other, row_same}
 use Rattle.operations.proofs.inner.create.fill_defaults.Goals as goal

@@ -1,6 +1,4 @@
-use Rattle.std.proofs.Common.{sym, refl, ap, ◌∙◌}
 use Rattle.std.proofs.lemmas.Option.{slice_get-get_or}
-use Rattle.operations.specs.Fields.{with_field}
 use Rattle.operations.specs.Parts.{with_spans}
 use Rattle.operations.proofs.Writing.{done_field}
 use Rattle.operations.proofs.inner.fields.set_field.Goals as goal

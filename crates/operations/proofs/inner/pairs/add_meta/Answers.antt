@@ -1,10 +1,9 @@
-use Rattle.std.proofs.Common.{◌≡◌, List, get_or, set, Ok, Err, sym, refl, ap, ◌∙◌, subst}
+use Rattle.std.proofs.Common.{◌≡◌, get_or, set, Err, sym, ap, ◌∙◌, subst}
 use lib.Seq.{set-get_or}
 use Rattle.refusals.specs.declared.ChangeBufferError.TheVariants.{RowFull}
 use Rattle.std.proofs.lemmas.Option.{slice_get-get_or}
 use Rattle.book.specs.Book.{meta}
 use Rattle.book.specs.Flush.{write_span}
-use Rattle.tables.specs.declared.span.Span.{Span}
 use Rattle.operations.specs.Parts.{with_spans, with_span_meta}
 use Rattle.operations.specs.Done.{Done, NoneMade}
 use Rattle.operations.proofs.Writing.{with_meta_head, done_meta, full-meta}

@@ -1,4 +1,3 @@
-use Rattle.std.proofs.Common.{inl, inr}
 use Rattle.operations.proofs.Creating.{record_within, not_grown}
 use Rattle.operations.proofs.inner.places.seat_for.Goals as goal
 

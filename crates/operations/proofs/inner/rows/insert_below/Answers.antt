@@ -1,8 +1,8 @@
-use Rattle.std.proofs.Common.{◌≡◌, ℕ, ◌+◌, ◌*◌, ◌<◌, ◌≤◌, true, false, cond, List, length, take, drop, set, refl, ap, ◌∙◌, arith, length-drop}
+use Rattle.std.proofs.Common.{◌≡◌, ℕ, ◌+◌, ◌*◌, ◌<◌, ◌≤◌, false, List, length, take, drop, set, ap, ◌∙◌, arith, length-drop}
 use Rattle.std.proofs.lemmas.List.{length-take-le, take_more_set}
 use Rattle.std.proofs.lemmas.Bool.{le-leb, lt-leb, cond-true, cond-false}
 use Rattle.vec_map.specs.declared.head.Head.{Head}
-use Rattle.vec_map.specs.Rows.{Row, full, insert_row}
+use Rattle.vec_map.specs.Rows.{full, insert_row}
 use Rattle.vec_map.specs.Tables.{headed, row, in_table, changed_row}
 use Rattle.operations.proofs.inner.rows.insert_below.Goals as goal
 

@@ -1,4 +1,4 @@
-use Rattle.std.proofs.Common.{◌≡◌, List, get_or, set, Ok, Err, sym, refl, ap, ◌∙◌, subst}
+use Rattle.std.proofs.Common.{◌≡◌, get_or, set, Err, sym, ap, ◌∙◌, subst}
 use lib.Seq.{set-get_or}
 use Rattle.refusals.specs.declared.ChangeBufferError.TheVariants.{RowFull}
 use Rattle.std.proofs.lemmas.Option.{slice_get-get_or}

@@ -1,4 +1,4 @@
-use Rattle.std.proofs.Common.{◌≡◌, ℕ, ◌-◌, ◌++◌, length, drop, refl, ap, ◌∙◌, arith}
+use Rattle.std.proofs.Common.{◌≡◌, ◌-◌, ◌++◌, length, drop, refl, ap, ◌∙◌, arith}
 use Rattle.recorder.proofs.inner.defaults.replace.Goals as goal
 
 pub returns : goal.returns
