@@ -1,5 +1,5 @@
 -- Operations: how one begins, where one breaks off, and one more after others.
-use Rattle.std.proofs.Common.{◌≡◌, ℕ, ◌+◌, ◌≤◌, List, [], ◌∷◌, ◌++◌, length, Ok, vec_items, Vec, sym, refl, ap, ◌∙◌, subst, inr, arith}
+use Rattle.std.proofs.Common.{◌≡◌, ℕ, ◌+◌, List, [], ◌∷◌, ◌++◌, Ok, vec_items, Vec, sym, refl, subst, inr, arith}
 use Rattle.std.specs.declared.alloc.Global.{Global}
 use Rattle.layout.specs.declared.operation.BufferedOperation.{BufferedOperation}
 use Rattle.layout.specs.Reads.{ReadsOperation, number_at}
@@ -8,7 +8,7 @@ use Rattle.decode.specs.declared.error.DecodeError.TheVariants.{Memory, Refused}
 use Rattle.decode.specs.declared.operand.Operand.{Operand}
 use Rattle.decode.specs.declared.operation.Operation.{Operation}
 use Rattle.decode.specs.Operands.{little}
-use Rattle.decode.specs.Operations.{Breaks, Decoded, Faults, Follow, head_bytes}
+use Rattle.decode.specs.Operations.{Decoded, Faults, Follow, head_bytes}
 use Rattle.decode.specs.Runs.{Fails, Run, Stand, Stops, asked, operands_bytes}
 use Rattle.decode.specs.Table.{table}
 use Rattle.decode.proofs.Stands.{stand_join, stand-number}

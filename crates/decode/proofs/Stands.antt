@@ -1,7 +1,7 @@
 -- Bytes that stand in a buffer: one part after another, and the bytes of a number that is read.
-use Rattle.std.proofs.Common.{◌≡◌, ℕ, zero, suc, ◌+◌, ◌-◌, ◌*◌, ◌/◌, ◌%◌, ◌^◌, ◌<◌, ◌≤◌, List, [], ◌∷◌, ◌++◌, length, get_or, take, drop, sym, refl, ap, ◌∙◌, subst, append_assoc, arith, length-drop, length-take, length-take-le, get_or-drop, take-add, w32, w64, Fits, to_z, of_z}
-use mir.Facts.{of_z-to_z}
-use Rattle.std.specs.List.{between, flat_map}
+use Rattle.std.proofs.Common.{◌≡◌, ℕ, zero, suc, ◌+◌, ◌-◌, ◌*◌, ◌/◌, ◌%◌, ◌^◌, ◌<◌, ◌≤◌, List, [], ◌∷◌, ◌++◌, length, take, drop, sym, refl, ap, ◌∙◌, arith, length-drop, length-take-le, get_or-drop, take-add, w32, w64}
+use Rattle.std.proofs.Math.Facts.{of_z-to_z}
+use Rattle.std.specs.List.{between}
 use Rattle.std.proofs.lemmas.List.{drop-drop}
 use Rattle.layout.specs.Numbers.{le}
 use Rattle.layout.specs.Reads.{number_at}
@@ -9,9 +9,8 @@ use Rattle.layout.proofs.Little.{le_bound}
 use Rattle.decode.specs.declared.operand.Kind.{Kind}
 use Rattle.decode.specs.declared.operand.Kind.TheVariants as kinds
 use Rattle.decode.specs.declared.operand.Label.{Label}
-use Rattle.decode.specs.declared.operand.Operand.{Operand}
 use Rattle.decode.specs.Operands.{kind, little, meant, number, operand_bytes, size}
-use Rattle.decode.specs.Runs.{Bytes, Stand, operands_bytes}
+use Rattle.decode.specs.Runs.{Bytes, Stand}
 
 between_join : {X : Type 0} (xs : List X) (i j k : ℕ) → i ≤ j → j ≤ k → between i j xs ++ between j k xs ≡ between i k xs
 between_join xs i j k h g =

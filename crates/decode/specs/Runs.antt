@@ -1,5 +1,5 @@
 -- Operands as they are read: by the table, one after another, up to one that does not fit.
-use Rattle.std.specs.Prelude.{◌≡◌, ℕ, zero, suc, ◌+◌, ◌<◌, ◌≤◌, Bool, true, false, List, [], ◌∷◌, ◌++◌, map, length, Ok, Err, vec_items, Result, Vec, slice_index}
+use Rattle.std.specs.Prelude.{◌≡◌, ℕ, zero, suc, ◌<◌, ◌≤◌, Bool, true, false, List, [], ◌∷◌, ◌++◌, map, length, Ok, Err, vec_items, Result, Vec, slice_index}
 use Rattle.std.specs.List.{between, flat_map}
 use Rattle.std.specs.declared.alloc.Global.{Global}
 use Rattle.refusals.specs.declared.ChangeBufferError.{ChangeBufferError}

@@ -1,4 +1,6 @@
 // Operations of a change buffer as values, and in words.
+#![tactic(auto)]
+
 pub mod error;
 pub mod listing;
 pub mod operand;

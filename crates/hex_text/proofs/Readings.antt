@@ -1,13 +1,12 @@
 -- Readings: of a text with bytes in front, of what is written by the grammar, and of the plain writing.
-use Rattle.std.proofs.Common.{◌≡◌, ℕ, ◌+◌, ◌-◌, ◌*◌, ◌/◌, ◌%◌, ◌<◌, ◌≤◌, Bool, true, false, cond, List, [], ◌∷◌, ◌++◌, length, get_or, drop, Ok, Err, Result, Vec, sym, refl, ap, ◌∙◌, subst, inl, inr, ⊎_elim, arith}
+use Rattle.std.proofs.Common.{◌≡◌, ℕ, ◌+◌, ◌*◌, ◌/◌, ◌%◌, ◌<◌, true, List, [], ◌∷◌, ◌++◌, length, get_or, drop, Ok, Err, Result, Vec, refl, ap, ◌∙◌, subst, inl, inr, ⊎_elim, arith}
 use Rattle.std.specs.declared.alloc.Global.{Global}
 use Rattle.std.proofs.lemmas.List.{drop_more}
 use Rattle.std.proofs.lemmas.Bool.{cases_Bool}
 use Rattle.std.proofs.lemmas.Bool.Decides.{nat_tests}
 use Rattle.hex_text.specs.declared.error.HexError.{HexError}
 use Rattle.hex_text.specs.declared.error.HexError.TheVariants.{Memory, Odd, Unknown}
-use Rattle.hex_text.specs.declared.read.Mark.{Mark}
-use Rattle.hex_text.specs.declared.read.Mark.TheVariants.{Blank, Digit, Hash, Newline, Other}
+use Rattle.hex_text.specs.declared.read.Mark.TheVariants.{Digit, Newline}
 use Rattle.hex_text.specs.declared.read.Mode.{Mode}
 use Rattle.hex_text.specs.declared.read.Mode.TheVariants.{Comment, First, Outside}
 use Rattle.hex_text.specs.declared.read.Step.{Step}

@@ -7,19 +7,19 @@ use Rattle.decode.proofs.operation.read_operation.Goals as goal
 pub returns : goal.returns
 returns c =
     let b = held c.args.buffer.now in
-    let head = c.in-ok-head.head in
-    let got = c.in-ok-head.ensures.cases in
-    record { cases = decoded b c.args.index.now c.from_buf.new.index head got c.read_operands.new.index c.in-ok-operands.operands c.in-ok-operands.ensures.cases }
+    let head = c.in_ok-head.head in
+    let got = c.in_ok-head.ensures.cases in
+    record { cases = decoded b c.args.index.now c.from_buf.new.index head got c.read_operands.new.index c.in_ok-operands.operands c.in_ok-operands.ensures.cases }
 
-pub returns-in-err-head : goal.returns-in-err-head
-returns-in-err-head c =
-    let p = err_from_is_err_and c.from-residual.result c.from-residual.ensures.1 in
-    record { cases = rw (p.1, p.2) (inl c.in-err-head.ensures.cases) }
+pub returns-in_err-head : goal.returns-in_err-head
+returns-in_err-head c =
+    let p = err_from_is_err_and c.from_residual.result c.from_residual.ensures.1 in
+    record { cases = rw (p.1, p.2) (inl c.in_err-head.ensures.cases) }
 
-pub returns-in-err-operands : goal.returns-in-err-operands
-returns-in-err-operands c =
-    let p = err_from_is_err_and c.from-residual-in-err-operands.result c.from-residual-in-err-operands.ensures.1 in
+pub returns-in_err-operands : goal.returns-in_err-operands
+returns-in_err-operands c =
+    let p = err_from_is_err_and c.from_residual-in_err-operands.result c.from_residual-in_err-operands.ensures.1 in
     let b = held c.args.buffer.now in
-    let head = c.in-ok-head.head in
-    let got = c.in-ok-head.ensures.cases in
-    record { cases = rw (p.1, p.2) (broken b c.args.index.now c.from_buf.new.index head got c.read_operands.new.index c.in-err-operands.field-0.0 c.in-err-operands.ensures.cases) }
+    let head = c.in_ok-head.head in
+    let got = c.in_ok-head.ensures.cases in
+    record { cases = rw (p.1, p.2) (broken b c.args.index.now c.from_buf.new.index head got c.read_operands.new.index c.in_err-operands.field-0.0 c.in_err-operands.ensures.cases) }

@@ -1,17 +1,17 @@
-use Rattle.std.proofs.Common.{◌≡◌, ℕ, ◌+◌, ◌-◌, ◌≤◌, List, [], ◌∷◌, ◌++◌, length, get_or, drop, Ok, Err, vec_items, Result, Vec, sym, refl, ap, ◌∙◌, subst, ⊎_elim, arith, length-drop, rules}
+use Rattle.std.proofs.Common.{◌≡◌, ℕ, ◌+◌, ◌-◌, ◌≤◌, List, [], ◌∷◌, ◌++◌, length, get_or, drop, Ok, Err, vec_items, Result, Vec, sym, ap, ◌∙◌, ⊎_elim, arith, length-drop}
 use Rattle.std.proofs.lemmas.List.{drop_all}
 use Rattle.std.specs.declared.alloc.Global.{Global}
 use Rattle.hex_text.specs.declared.error.HexError.{HexError}
-use Rattle.hex_text.specs.declared.error.HexError.TheVariants.{Memory, Odd, Unknown}
+use Rattle.hex_text.specs.declared.error.HexError.TheVariants.{Odd, Unknown}
 use Rattle.hex_text.specs.declared.read.Mode.{Mode}
 use Rattle.hex_text.specs.declared.read.Mode.TheVariants.{Comment, First, Outside}
 use Rattle.hex_text.specs.declared.read.Step.TheVariants as steps
 use Rattle.hex_text.specs.Steps.{Small, digits}
 use Rattle.hex_text.specs.Places.{place}
-use Rattle.hex_text.specs.Texts.{Reads, Saying, before, reading}
+use Rattle.hex_text.specs.Texts.{Reads, Saying, reading}
 use Rattle.hex_text.proofs.Readings.{ahead, ahead_push, ahead-bytes, ahead-odd, ahead-unknown, gives_back, gives-meant, turned}
 use Rattle.hex_text.proofs.read.read_hex.Goals as goal
-use Rattle.hex_text.proofs.read.read_hex.Goals.{in-To, in-Byte+in-ok-push}
+use Rattle.hex_text.proofs.read.read_hex.Goals.{in-To, in-Byte+in_ok-push-in-Byte}
 
 abbrev Answer : Type 0
 Answer = Result (Vec ℕ Global) HexError
@@ -36,22 +36,22 @@ loop-offset-preserved c =
           let says = turned text bs c.loop-offset.mode i (steps.To next) c.loop-offset-test.true c.loop-offset.invariant.0 w.in-To.ensures.value in
           let holds : after bs next = (says, w.in-To.ensures.bound, digits-small next i) in
           rw (w.mode-is, w.bytes-is) holds
-      | in-Byte+in-ok-push w ↦
+      | in-Byte+in_ok-push-in-Byte w ↦
           let value = w.in-Byte.value in
           let says = turned text bs c.loop-offset.mode i (steps.Byte value) c.loop-offset-test.true c.loop-offset.invariant.0 w.in-Byte.ensures.value in
           let more : reading Outside text ≡ ahead (bs ++ value ∷ []) (reading Outside (drop (i + 1) text)) = says ∙ sym (ahead_push bs value (reading Outside (drop (i + 1) text))) in
           let holds : after (bs ++ value ∷ []) Outside = (more, tt, omega arith) in
-          rw (w.mode-is, w.bytes-is, w.in-ok-push.ensures.items) holds
+          rw (w.mode-is, w.bytes-is, w.in_ok-push-in-Byte.ensures.items) holds
     ]
 
 pub step-requires : goal.step-requires
 step-requires c = c.loop-offset.invariant.1
 
-pub overflow-sub-offset : goal.overflow-sub-offset
-overflow-sub-offset c = omega (arith, c.loop-offset.invariant.2, c.in-Odd.ensures.bound)
+pub overflow_sub-offset : goal.overflow_sub-offset
+overflow_sub-offset c = omega (arith, c.loop-offset.invariant.2, c.in-Odd.ensures.bound)
 
-pub overflow-sub-text : goal.overflow-sub-text
-overflow-sub-text c = omega (arith, c.loop-offset.invariant.2, ap digits c.in-First.is)
+pub overflow_sub-text : goal.overflow_sub-text
+overflow_sub-text c = omega (arith, c.loop-offset.invariant.2, ap digits c.in-First.is)
 
 pub returns-in-Odd : goal.returns-in-Odd
 returns-in-Odd c =

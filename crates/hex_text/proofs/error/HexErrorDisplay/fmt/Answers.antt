@@ -1,5 +1,5 @@
 use Rattle.std.proofs.Common.{◌≡◌, ◌<◌, true, false, [], ◌∷◌, sym, ap, ◌∙◌, arith}
-use lib.Utf8.{encode}
+use Rattle.std.proofs.Math.Utf8.{encode}
 use Rattle.std.specs.Char.{is_ascii_graphic}
 use Rattle.std.proofs.lemmas.Str.{encode_ascii}
 use Rattle.hex_text.proofs.error.HexErrorDisplay.fmt.Goals as goal
