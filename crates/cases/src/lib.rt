@@ -1,3 +1,5 @@
+#![tactic(auto)]
+
 // Cases on the limits, run on the code. Each test is proved safe and then run.
 #[cfg(test)]
 mod decoding;

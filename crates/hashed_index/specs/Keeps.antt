@@ -69,6 +69,9 @@ kept-le [] = omega arith
 kept-le (None ∷ ps) = omega (arith, kept-le ps)
 kept-le (Some e ∷ ps) = omega (arith, kept-le ps)
 
+pub kept_fits : (ps : List (Option Entry)) (n : ℕ) → length ps ≡ n → length (kept ps) ≤ n
+kept_fits ps n long = omega (arith, kept-le ps, long)
+
 pub kept-all : (ps : List (Option Entry)) → ((b : ℕ) → b < length ps → Taken ps b) → length (kept ps) ≡ length ps
 kept-all [] h = refl
 kept-all (None ∷ ps) h = absurd (both_ways false refl (h 0 (omega arith)))

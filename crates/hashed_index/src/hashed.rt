@@ -2,8 +2,7 @@
 ghost use Rattle.std.specs.Prelude.{◌≡◌, ◌<◌, ◌≤◌, true, [], length, IfOk, IfErr, vec_len};
 ghost use Rattle.hashed_index.specs.Places.{Alone, Reached, kept};
 ghost use Rattle.hashed_index.specs.Making.{in_range, told, wanting};
-ghost use Rattle.hashed_index.specs.Keeps.{kept-once, kept-le};
-ghost use Rattle.std.proofs.Common.{arith};
+ghost use Rattle.hashed_index.specs.Keeps.{kept-once, kept_fits};
 
 use crate::probe::{Spot, empty, seek, take_out, write};
 use index::Index;
@@ -70,7 +69,7 @@ impl Index for HashedIndex {
 
     ghost once = { λ s. kept-once s.places.items s.alone };
 
-    ghost fits = { λ s. omega (arith, kept-le s.places.items, s.long) };
+    ghost fits = { λ s. kept_fits s.places.items (vec_len s.places) s.long };
 
     fn find(&self, id: u64) -> Option<usize> {
         match seek(self.places.as_slice(), id) {
