@@ -9,7 +9,7 @@ ghost use Rattle.recorder.specs.Performs.{Performs};
 ghost use Rattle.operations.specs.Done.{SpansKept, SegmentsKept};
 ghost use Rattle.flush.specs.Operation.{Created};
 
-use crate::inner::operations::flush_bytes;
+use crate::inner::flushing::flush_bytes;
 use index::Index;
 use refusals::ChangeBufferError;
 use tables::order::in_order;

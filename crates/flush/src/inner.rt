@@ -1,6 +1,6 @@
 // Operations by their opcodes, on tables in order.
 pub mod creates;
+pub mod flushing;
 pub mod found;
-pub mod operations;
 pub mod segments;
 pub mod spans;

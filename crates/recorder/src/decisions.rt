@@ -1,12 +1,11 @@
 // The call that sets a segment's sampling decisions.
-ghost use Rattle.std.specs.Prelude.{◌≡◌};
+ghost use Rattle.std.specs.Prelude.{◌≡◌, ℕ, ◌<◌, length, slice_index_or, slice_set};
 ghost use Rattle.book.specs.Calls.{decisions};
 ghost use Rattle.tables.specs.Lent.{passed, left};
 ghost use Rattle.recorder.specs.Answers.{answer};
-ghost use Rattle.recorder.specs.Decisions.{decided_in};
+ghost use Rattle.recorder.specs.Decisions.{decided, decided_in};
 ghost use Rattle.recorder.specs.Performs.{Performs};
 
-use crate::inner::decisions::decide_at;
 use index::Index;
 use refusals::ChangeBufferError;
 use tables::order::tables_in_order;
@@ -38,4 +37,30 @@ pub fn set_decisions<T: Text, S: Index, G: Index>(
     };
     decide_at(segments, place, rule, limit, agent);
     Ok(())
+}
+
+fn decide_at<T: Text>(
+    segments: &mut [Segment<T>],
+    place: usize,
+    rule: Option<f64>,
+    limit: Option<f64>,
+    agent: Option<f64>,
+)
+    requires { place < length segments.old }
+    ensures { (d : Segment T) → segments.new ≡ slice_set segments.old place (decided rule limit agent (slice_index_or segments.old place d)) }
+{
+    decide(&mut segments[place], rule, limit, agent);
+}
+
+fn decide<T: Text>(
+    segment: &mut Segment<T>,
+    rule: Option<f64>,
+    limit: Option<f64>,
+    agent: Option<f64>,
+)
+    ensures { segment.new ≡ decided rule limit agent segment.old }
+{
+    segment.rule = rule;
+    segment.limit = limit;
+    segment.agent = agent;
 }

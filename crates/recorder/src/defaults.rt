@@ -1,13 +1,12 @@
 // The call that sets the default pairs, which every new span gets.
-ghost use Rattle.std.specs.Prelude.{◌≡◌, ℕ, map};
+ghost use Rattle.std.specs.Prelude.{◌≡◌, ℕ, map, length};
 ghost use Rattle.book.specs.Calls.{default_meta};
 ghost use Rattle.tables.specs.Lent.{passed, left};
 ghost use Rattle.tables.specs.Shows.{text_pair};
 ghost use Rattle.recorder.specs.Answers.{answer};
-ghost use Rattle.recorder.specs.Defaults.{replaced};
+ghost use Rattle.recorder.specs.Defaults.{Replaces, replaced};
 ghost use Rattle.recorder.specs.Performs.{Performs};
 
-use crate::inner::defaults::replace;
 use index::Index;
 use refusals::ChangeBufferError;
 use tables::order::tables_in_order;
@@ -32,4 +31,21 @@ pub fn set_default_meta<T: Text, S: Index, G: Index>(
         return Err(ChangeBufferError::OutOfOrder);
     }
     replace(tables.defaults, settings, pairs)
+}
+
+fn replace<T: Text>(
+    defaults: &mut [(T, T)],
+    settings: &mut Settings<T>,
+    pairs: &[(T, T)],
+) -> Result<(), ChangeBufferError>
+    requires { length defaults.old ≡ 32 }
+    ensures { Replaces pairs.now defaults.old defaults.new settings.old settings.new result }
+{
+    let count = pairs.len();
+    if count > 32 {
+        return Err(ChangeBufferError::TooManyDefaults);
+    }
+    defaults[0..count].copy_from_slice(pairs);
+    settings.defaults = count;
+    Ok(())
 }

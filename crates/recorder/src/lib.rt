@@ -3,6 +3,5 @@
 
 pub mod decisions;
 pub mod defaults;
-pub mod inner;
 pub mod setup;
 pub mod strings;

@@ -1,12 +1,11 @@
 // The calls on the string table.
-ghost use Rattle.std.specs.Prelude.{◌≡◌, ℕ, Some, None};
+ghost use Rattle.std.specs.Prelude.{◌≡◌, ℕ, Some, None, slice_set};
 ghost use Rattle.book.specs.Calls.{string_insert, string_evict};
 ghost use Rattle.tables.specs.Lent.{passed, left};
 ghost use Rattle.recorder.specs.Answers.{answer};
 ghost use Rattle.recorder.specs.Performs.{Performs};
-ghost use Rattle.recorder.specs.Strings.{written};
+ghost use Rattle.recorder.specs.Strings.{Inserts, written};
 
-use crate::inner::strings::{evict_one, insert_one};
 use index::Index;
 use refusals::ChangeBufferError;
 use tables::order::tables_in_order;
@@ -34,6 +33,17 @@ pub fn string_table_insert_one<T: Text, S: Index, G: Index>(
     insert_one(tables.strings, key, val)
 }
 
+fn insert_one<T: Text>(strings: &mut [Option<T>], key: u32, val: T) -> Result<(), ChangeBufferError>
+    ensures { Inserts strings.old strings.new key (Some val) result }
+{
+    let place = key as usize;
+    if place >= strings.len() {
+        return Err(ChangeBufferError::KeyBeyond);
+    }
+    strings[place] = Some(val);
+    Ok(())
+}
+
 // Takes a string out; nothing past the table's end.
 pub fn string_table_evict_one<T: Text, S: Index, G: Index>(
     tables: Tables<'_, '_, '_, '_, '_, '_, '_, T>,
@@ -51,4 +61,13 @@ pub fn string_table_evict_one<T: Text, S: Index, G: Index>(
     }
     evict_one(tables.strings, key);
     Ok(())
+}
+
+fn evict_one<T: Text>(strings: &mut [Option<T>], key: u32)
+    ensures { strings.new ≡ slice_set strings.old key None }
+{
+    let place = key as usize;
+    if place < strings.len() {
+        strings[place] = None;
+    }
 }

@@ -3,7 +3,7 @@ use Rattle.std.proofs.lemmas.List.{length-take-le, take_all}
 use Rattle.std.proofs.lemmas.Option.{slice_get_read}
 use Rattle.questions.specs.Questions.{Three, and_one, tallies}
 use Rattle.questions.proofs.Tallies.{tallies-sum, tallies-more}
-use Rattle.questions.proofs.inner.count_marks.Goals as goal
+use Rattle.questions.proofs.count_marks.Goals as goal
 
 pub and_one-numbers-requires : goal.and_one-numbers-requires
 and_one-numbers-requires g c =

@@ -7,7 +7,7 @@ use Rattle.tables.specs.Store.{store}
 use Rattle.interpret.specs.Played.{Played}
 use Rattle.interpret.proofs.Following.{played_start, played_more, played_turned}
 use Rattle.flush.specs.Operation.{Created}
-use Rattle.flush.proofs.inner.operations.operate_times.Goals as goal
+use Rattle.flush.proofs.inner.flushing.operate_times.Goals as goal
 
 pub loop-i-init : goal.loop-i-init
 loop-i-init g c = (tt, played_start g.T.Text.bytes operation (held c.args.buffer.now) (Created (held c.args.buffer.now)) (store c.args.spans.now c.args.span_meta.now c.args.span_metrics.now c.args.segments.now c.args.segment_meta.now c.args.segment_metrics.now c.args.strings.now c.args.defaults.now c.args.settings.now (g.S.Index.held c.args.by_id.now) (g.S.Index.room c.args.by_id.now) (g.G.Index.held c.args.by_segment.now) (g.G.Index.room c.args.by_segment.now)) c.args.index.now c.requires.order)

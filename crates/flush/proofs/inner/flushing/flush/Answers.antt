@@ -2,7 +2,7 @@ use Rattle.std.proofs.lemmas.Result.{err_from_is_err_and}
 use Rattle.layout.specs.Reads.{held}
 use Rattle.tables.specs.Store.{store}
 use Rattle.flush.proofs.Operating.{uncounted, counted, made_always}
-use Rattle.flush.proofs.inner.operations.flush.Goals as goal
+use Rattle.flush.proofs.inner.flushing.flush.Goals as goal
 
 pub returns-in_err-count : goal.returns-in_err-count
 returns-in_err-count g c =

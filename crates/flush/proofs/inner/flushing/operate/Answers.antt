@@ -2,7 +2,7 @@ use Rattle.std.proofs.lemmas.Result.{err_from_is_err_and}
 use Rattle.layout.specs.Reads.{held}
 use Rattle.tables.specs.Store.{store}
 use Rattle.flush.proofs.Operating.{operated, unheaded}
-use Rattle.flush.proofs.inner.operations.operate.Goals as goal
+use Rattle.flush.proofs.inner.flushing.operate.Goals as goal
 
 pub returns-in_err-head : goal.returns-in_err-head
 returns-in_err-head g c =

@@ -5,7 +5,7 @@ use Rattle.tables.specs.Store.{store}
 use Rattle.interpret.specs.Played.{Played}
 use Rattle.flush.specs.Operation.{Created}
 use Rattle.flush.proofs.Operating.{flushed, eight_zeros}
-use Rattle.flush.proofs.inner.operations.flush_bytes.Goals as goal
+use Rattle.flush.proofs.inner.flushing.flush_bytes.Goals as goal
 
 pub returns-in_err-flush : goal.returns-in_err-flush
 returns-in_err-flush g c =

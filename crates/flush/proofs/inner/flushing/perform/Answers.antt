@@ -7,7 +7,7 @@ use Rattle.operations.proofs.Creating.{ids-within, seats-within}
 use Rattle.flush.specs.Operation.{segment_attribute}
 use Rattle.flush.proofs.Performing.{span_then, span-missing, segment_then, segment-missing}
 use Rattle.flush.proofs.Operating.{still_cached}
-use Rattle.flush.proofs.inner.operations.perform.Goals as goal
+use Rattle.flush.proofs.inner.flushing.perform.Goals as goal
 
 pub create_span-requires : goal.create_span-requires
 create_span-requires g c = record { order = ((store c.args.spans.now c.args.span_meta.now c.args.span_metrics.now c.args.segments.now c.args.segment_meta.now c.args.segment_metrics.now c.args.strings.now c.args.defaults.now c.args.settings.now (g.S.Index.held c.args.by_id.now) (g.S.Index.room c.args.by_id.now) (g.G.Index.held c.args.by_segment.now) (g.G.Index.room c.args.by_segment.now)), c.requires.order) }

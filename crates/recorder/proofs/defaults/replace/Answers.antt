@@ -1,5 +1,5 @@
 use Rattle.std.proofs.Common.{◌≡◌, ◌-◌, ◌++◌, length, drop, refl, ap, ◌∙◌, arith}
-use Rattle.recorder.proofs.inner.defaults.replace.Goals as goal
+use Rattle.recorder.proofs.defaults.replace.Goals as goal
 
 pub returns : goal.returns
 returns g c =

@@ -3,7 +3,7 @@ use Rattle.std.proofs.lemmas.Option.{slice_get_read, slice_get_past}
 use Rattle.book.specs.Maps.{has}
 use Rattle.tables.specs.declared.span.Span.{Span}
 use Rattle.tables.specs.Store.{only, handed}
-use Rattle.questions.proofs.inner.handed_at.Goals as goal
+use Rattle.questions.proofs.handed_at.Goals as goal
 
 only-handed : {T : Type 0} (x : Span T) → has (only handed (Some x)) ≡ handed x
 only-handed x = elim (handed x) as (λ b. has (cond b (Some x) None) ≡ b) [ true ↦ refl | false ↦ refl ]

@@ -6,7 +6,7 @@ use Rattle.tables.specs.Store.{store}
 use Rattle.interpret.specs.Played.{Played}
 use Rattle.flush.specs.Found.{Cached}
 use Rattle.flush.specs.Operation.{Created}
-use Rattle.flush.proofs.inner.operations.operate_times.Given as goal
+use Rattle.flush.proofs.inner.flushing.operate_times.Given as goal
 
 abbrev pub invariant-loop-i : goal.invariant-loop-i
 invariant-loop-i g l =
