@@ -21,18 +21,18 @@ use texts::Text;
 // Plays the operations of a buffer one after another, up to the first that is refused. An accepted flush zeroes the
 // buffer's count; a refused one leaves the buffer as it is, and what came before the refusal stays written.
 pub fn flush_change_buffer<T: Text, S: Index, G: Index>(
-    tables: Tables<'_, '_, '_, '_, '_, '_, '_, T>,
+    tables: Tables<'_, T>,
     segments: &mut [Segment<T>],
     settings: &mut Settings<T>,
     by_id: &mut S,
     by_segment: &mut G,
     buffer: &mut [u8],
 ) -> Result<(), ChangeBufferError>
-    ensures call { Performs T.Text.bytes (change_buffer buffer.old) (passed tables.entry segments.old settings.old (S.Index.held by_id.old) (S.Index.room by_id.old) (G.Index.held by_segment.old) (G.Index.room by_segment.old)) (left tables.exit segments.new settings.new (S.Index.held by_id.new) (S.Index.room by_id.new) (G.Index.held by_segment.new) (G.Index.room by_segment.new)) (answer result) }
+    ensures call { Performs T.bytes (change_buffer buffer.old) (passed tables.entry segments.old settings.old (S.content by_id.old) (G.content by_segment.old)) (left tables.exit segments.new settings.new (S.content by_id.new) (G.content by_segment.new)) (answer result) }
     ensures after { buffer.new ≡ buffer_after (answer result) buffer.old }
-    ensures order { InOrder (passed tables.entry segments.old settings.old (S.Index.held by_id.old) (S.Index.room by_id.old) (G.Index.held by_segment.old) (G.Index.room by_segment.old)) → InOrder (left tables.exit segments.new settings.new (S.Index.held by_id.new) (S.Index.room by_id.new) (G.Index.held by_segment.new) (G.Index.room by_segment.new)) }
-    ensures spans { SpansKept (Created buffer.old) (passed tables.entry segments.old settings.old (S.Index.held by_id.old) (S.Index.room by_id.old) (G.Index.held by_segment.old) (G.Index.room by_segment.old)) (left tables.exit segments.new settings.new (S.Index.held by_id.new) (S.Index.room by_id.new) (G.Index.held by_segment.new) (G.Index.room by_segment.new)) }
-    ensures segments { SegmentsKept (passed tables.entry segments.old settings.old (S.Index.held by_id.old) (S.Index.room by_id.old) (G.Index.held by_segment.old) (G.Index.room by_segment.old)) (left tables.exit segments.new settings.new (S.Index.held by_id.new) (S.Index.room by_id.new) (G.Index.held by_segment.new) (G.Index.room by_segment.new)) }
+    ensures order { InOrder (passed tables.entry segments.old settings.old (S.content by_id.old) (G.content by_segment.old)) → InOrder (left tables.exit segments.new settings.new (S.content by_id.new) (G.content by_segment.new)) }
+    ensures spans { SpansKept (Created buffer.old) (passed tables.entry segments.old settings.old (S.content by_id.old) (G.content by_segment.old)) (left tables.exit segments.new settings.new (S.content by_id.new) (G.content by_segment.new)) }
+    ensures segments { SegmentsKept (passed tables.entry segments.old settings.old (S.content by_id.old) (G.content by_segment.old)) (left tables.exit segments.new settings.new (S.content by_id.new) (G.content by_segment.new)) }
 {
     let Tables {
         spans,

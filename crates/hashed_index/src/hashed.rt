@@ -63,9 +63,7 @@ impl HashedIndex {
 }
 
 impl Index for HashedIndex {
-    ghost held = { λ s. kept s.places.items };
-
-    ghost room = { λ s. vec_len s.places };
+    ghost content = { λ s. record { held = kept s.places.items; room = vec_len s.places } };
 
     ghost once = { λ s. kept-once s.places.items s.alone };
 

@@ -4,6 +4,11 @@ use Rattle.std.specs.Map.{update}
 use Rattle.index.specs.declared.entry.Entry.{Entry}
 use Rattle.index.specs.declared.entry.Full.{Full}
 
+-- what an index holds, in an order that is left open, and how many ids it has room for
+pub record Content : Type 0 where
+  pub held : List Entry
+  pub room : ℕ
+
 -- what a list is read as past its end
 abbrev pub blank : Entry
 blank = record { id = 0; number = 0 }

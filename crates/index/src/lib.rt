@@ -1,47 +1,44 @@
 // Indexes: finite maps from 64-bit ids to record numbers, with a capacity.
 #![tactic(auto)]
 
-ghost use Rattle.std.specs.Prelude.{◌≡◌, ℕ, ◌≤◌, List, [], length, None, OnErr};
-ghost use Rattle.index.specs.declared.entry.Entry.{Entry};
-ghost use Rattle.index.specs.Held.{at, Once, Put, Removed};
+ghost use Rattle.std.specs.Prelude.{◌≡◌, ◌≤◌, [], length, None, OnErr};
+ghost use Rattle.index.specs.Held.{Content, at, Once, Put, Removed};
 
 pub mod entry;
 pub mod holds;
 
 use crate::entry::Full;
 
-// `held` lists what the index holds, in an order that is left open; `room` is the capacity.
+// What an index means is its content: what it holds, in an order that is left open, and its capacity.
 pub trait Index {
-    ghost held: { Self → List Entry };
-
-    ghost room: { Self → ℕ };
+    ghost content: { Self → Content };
 
     fn find(&self, id: u64) -> Option<usize>
-        ensures { result ≡ at (held self.now) id };
+        ensures { result ≡ at (content self.now).held id };
 
     // Answers the former number, or none; refuses an id that is not held where the capacity is used up, and no other.
     fn put(&mut self, id: u64, number: usize) -> Result<Option<usize>, Full>
-        ensures cases { Put (held self.old) (held self.new) (room self.old) id number result }
+        ensures cases { Put (content self.old).held (content self.new).held (content self.old).room id number result }
         ensures same { OnErr result (self.new ≡ self.old) }
-        ensures capacity { room self.new ≡ room self.old };
+        ensures capacity { (content self.new).room ≡ (content self.old).room };
 
     // Answers the former number, or none.
     fn remove(&mut self, id: u64) -> Option<usize>
-        ensures cases { Removed (held self.old) (held self.new) id result }
+        ensures cases { Removed (content self.old).held (content self.new).held id result }
         ensures same { result ≡ None → self.new ≡ self.old }
-        ensures capacity { room self.new ≡ room self.old };
+        ensures capacity { (content self.new).room ≡ (content self.old).room };
 
     fn clear(&mut self)
-        ensures items { held self.new ≡ [] }
-        ensures capacity { room self.new ≡ room self.old };
+        ensures items { (content self.new).held ≡ [] }
+        ensures capacity { (content self.new).room ≡ (content self.old).room };
 
     fn count(&self) -> usize
-        ensures { result ≡ length (held self.now) };
+        ensures { result ≡ length (content self.now).held };
 
     fn capacity(&self) -> usize
-        ensures { result ≡ room self.now };
+        ensures { result ≡ (content self.now).room };
 
-    ghost once: { (s : Self) → Once (held s) };
+    ghost once: { (s : Self) → Once (content s).held };
 
-    ghost fits: { (s : Self) → length (held s) ≤ room s };
+    ghost fits: { (s : Self) → length (content s).held ≤ (content s).room };
 }

@@ -33,7 +33,7 @@ pub enum FieldName {
 
 impl TextName {
     pub fn set_to<T: Text>(self, value: T) -> SpanField<T>
-        ensures { field_written T.Text.bytes result ≡ text_field self ≔ text (T.Text.bytes value) }
+        ensures { field_written T.bytes result ≡ text_field self ≔ text (T.bytes value) }
     {
         match self {
             TextName::Service => SpanField::Service(value),
@@ -46,7 +46,7 @@ impl TextName {
 
 impl TimeName {
     pub fn set_to<T: Text>(self, value: i64) -> SpanField<T>
-        ensures { field_written T.Text.bytes result ≡ time_field self ≔ int value }
+        ensures { field_written T.bytes result ≡ time_field self ≔ int value }
     {
         match self {
             TimeName::Start => SpanField::Start(value),
@@ -56,7 +56,7 @@ impl TimeName {
 }
 
 pub fn error_set_to<T: Text>(value: i32) -> SpanField<T>
-    ensures { field_written T.Text.bytes result ≡ error ≔ int value }
+    ensures { field_written T.bytes result ≡ error ≔ int value }
 {
     SpanField::Error(value)
 }

@@ -38,7 +38,7 @@ pub struct Creation<T> {
 }
 
 fn bare<T: Text>() -> MadeFields<T>
-    ensures blank { BlankBut T.Text.bytes Extra.Bare result }
+    ensures blank { BlankBut T.bytes Extra.Bare result }
 {
     MadeFields {
         service: T::empty(),
@@ -54,8 +54,8 @@ fn read_named<T: Text>(
     index: &mut usize,
     strings: &[Option<T>],
 ) -> Result<MadeFields<T>>
-    ensures reads { ReadsAs T.Text.bytes (read_fields (fields_of Extra.Named)) strings.now (held buffer.now) index.old index.new (made_writings T.Text.bytes Extra.Named) result }
-    ensures blank { IfOk result (λ f. BlankBut T.Text.bytes Extra.Named f) }
+    ensures reads { ReadsAs T.bytes (read_fields (fields_of Extra.Named)) strings.now (held buffer.now) index.old index.new (made_writings T.bytes Extra.Named) result }
+    ensures blank { IfOk result (λ f. BlankBut T.bytes Extra.Named f) }
 {
     let name = buffer.read_string(strings, index)?;
     let start: i64 = buffer.read(index)?;
@@ -73,7 +73,7 @@ fn read_full<T: Text>(
     index: &mut usize,
     strings: &[Option<T>],
 ) -> Result<MadeFields<T>>
-    ensures reads { ReadsAs T.Text.bytes (read_fields (fields_of Extra.Full)) strings.now (held buffer.now) index.old index.new (made_writings T.Text.bytes Extra.Full) result }
+    ensures reads { ReadsAs T.bytes (read_fields (fields_of Extra.Full)) strings.now (held buffer.now) index.old index.new (made_writings T.bytes Extra.Full) result }
 {
     let name = buffer.read_string(strings, index)?;
     let service = buffer.read_string(strings, index)?;
@@ -95,8 +95,8 @@ fn read_made_fields<T: Text>(
     strings: &[Option<T>],
     extra: Extra,
 ) -> Result<MadeFields<T>>
-    ensures reads { ReadsAs T.Text.bytes (read_fields (fields_of extra)) strings.now (held buffer.now) index.old index.new (made_writings T.Text.bytes extra) result }
-    ensures blank { IfOk result (λ f. BlankBut T.Text.bytes extra f) }
+    ensures reads { ReadsAs T.bytes (read_fields (fields_of extra)) strings.now (held buffer.now) index.old index.new (made_writings T.bytes extra) result }
+    ensures blank { IfOk result (λ f. BlankBut T.bytes extra f) }
 {
     match extra {
         Extra::Bare => Ok(bare()),
@@ -111,8 +111,8 @@ pub fn read_creation<T: Text>(
     strings: &[Option<T>],
     extra: Extra,
 ) -> Result<Creation<T>>
-    ensures reads { ReadsAs T.Text.bytes (read_create (fields_of extra)) strings.now (held buffer.now) index.old index.new (creation_of T.Text.bytes extra) result }
-    ensures blank { IfOk result (λ c. RestBlank T.Text.bytes extra c.making) }
+    ensures reads { ReadsAs T.bytes (read_create (fields_of extra)) strings.now (held buffer.now) index.old index.new (creation_of T.bytes extra) result }
+    ensures blank { IfOk result (λ c. RestBlank T.bytes extra c.making) }
 {
     let trace: TraceId = buffer.read(index)?;
     let segment: u64 = buffer.read(index)?;

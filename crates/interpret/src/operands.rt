@@ -20,7 +20,7 @@ pub fn read_meta<T: Text>(
     index: &mut usize,
     strings: &[Option<T>],
 ) -> Result<(T, T)>
-    ensures reads { ReadsAs T.Text.bytes (read_attribute S_S) strings.now (held buffer.now) index.old index.new (λ p. meta (T.Text.bytes p.0) (T.Text.bytes p.1)) result }
+    ensures reads { ReadsAs T.bytes (read_attribute S_S) strings.now (held buffer.now) index.old index.new (λ p. meta (T.bytes p.0) (T.bytes p.1)) result }
 {
     let key = buffer.read_string(strings, index)?;
     let value = buffer.read_string(strings, index)?;
@@ -33,7 +33,7 @@ pub fn read_metric<T: Text>(
     index: &mut usize,
     strings: &[Option<T>],
 ) -> Result<(T, u64)>
-    ensures reads { ReadsAs T.Text.bytes (read_attribute S_F) strings.now (held buffer.now) index.old index.new (λ p. metric (T.Text.bytes p.0) p.1) result }
+    ensures reads { ReadsAs T.bytes (read_attribute S_F) strings.now (held buffer.now) index.old index.new (λ p. metric (T.bytes p.0) p.1) result }
 {
     let key = buffer.read_string(strings, index)?;
     let value: f64 = buffer.read(index)?;
@@ -47,7 +47,7 @@ pub fn read_field<T: Text>(
     strings: &[Option<T>],
     name: FieldName,
 ) -> Result<SpanField<T>>
-    ensures reads { ReadsAs T.Text.bytes (read_attribute (attribute_of name)) strings.now (held buffer.now) index.old index.new (field_written T.Text.bytes) result }
+    ensures reads { ReadsAs T.bytes (read_attribute (attribute_of name)) strings.now (held buffer.now) index.old index.new (field_written T.bytes) result }
 {
     match name {
         FieldName::Text(text) => {

@@ -26,7 +26,7 @@ impl<'a> ChangeBuffer<'a> {
 
     // The value at `index`, which moves past it; it stays where the value does not fit.
     pub fn read<T: FromBytes>(&self, index: &mut usize) -> Result<T>
-        ensures cases { Reads T.FromBytes.value T.FromBytes.size (held self.now) index.old index.new result }
+        ensures cases { Reads T.value T.size (held self.now) index.old index.new result }
     {
         let offset = *index;
         let value_len = T::size_in_bytes();

@@ -19,16 +19,16 @@ use texts::Text;
 
 // The number of the record of a live span, by which it is read; refused (7) where the id is not live.
 pub fn get_span<T: Text, S: Index, G: Index>(
-    tables: &Tables<'_, '_, '_, '_, '_, '_, '_, T>,
+    tables: &Tables<'_, T>,
     segments: &[Segment<T>],
     settings: &Settings<T>,
     by_id: &S,
     by_segment: &G,
     id: u64,
 ) -> Result<usize, ChangeBufferError>
-    ensures value { Answered (live_number id (S.Index.held by_id.now)) (passed tables.now segments.now settings.now (S.Index.held by_id.now) (S.Index.room by_id.now) (G.Index.held by_segment.now) (G.Index.room by_segment.now)) result }
+    ensures value { Answered (live_number id (S.content by_id.now).held) (passed tables.now segments.now settings.now (S.content by_id.now) (G.content by_segment.now)) result }
     ensures cases { LiveRecord tables.now.spans.now id result }
-    ensures call { Asks T.Text.bytes (get_span id) (OneSpan T.Text.bytes) (passed tables.now segments.now settings.now (S.Index.held by_id.now) (S.Index.room by_id.now) (G.Index.held by_segment.now) (G.Index.room by_segment.now)) result }
+    ensures call { Asks T.bytes (get_span id) (OneSpan T.bytes) (passed tables.now segments.now settings.now (S.content by_id.now) (G.content by_segment.now)) result }
 {
     if !tables_in_order(tables, segments, settings, by_id, by_segment) {
         return Err(ChangeBufferError::OutOfOrder);
@@ -37,23 +37,23 @@ pub fn get_span<T: Text, S: Index, G: Index>(
 }
 
 fn live_number<S: Index>(by_id: &S, id: u64) -> Result<usize, ChangeBufferError>
-    ensures { result ≡ live_number id (S.Index.held by_id.now) }
+    ensures { result ≡ live_number id (S.content by_id.now).held }
 {
     by_id.find(id).ok_or(ChangeBufferError::SpanNotFound(id))
 }
 
 // The number of the record of a segment, none where it does not stand.
 pub fn get_segment<T: Text, S: Index, G: Index>(
-    tables: &Tables<'_, '_, '_, '_, '_, '_, '_, T>,
+    tables: &Tables<'_, T>,
     segments: &[Segment<T>],
     settings: &Settings<T>,
     by_id: &S,
     by_segment: &G,
     id: u64,
 ) -> Result<Option<usize>, ChangeBufferError>
-    ensures value { Answered (Ok (at (G.Index.held by_segment.now) id)) (passed tables.now segments.now settings.now (S.Index.held by_id.now) (S.Index.room by_id.now) (G.Index.held by_segment.now) (G.Index.room by_segment.now)) result }
+    ensures value { Answered (Ok (at (G.content by_segment.now).held id)) (passed tables.now segments.now settings.now (S.content by_id.now) (G.content by_segment.now)) result }
     ensures cases { IfOk result (RecordOf standing_key segments.now id) }
-    ensures call { Asks T.Text.bytes (get_segment id) (OneSegment T.Text.bytes) (passed tables.now segments.now settings.now (S.Index.held by_id.now) (S.Index.room by_id.now) (G.Index.held by_segment.now) (G.Index.room by_segment.now)) result }
+    ensures call { Asks T.bytes (get_segment id) (OneSegment T.bytes) (passed tables.now segments.now settings.now (S.content by_id.now) (G.content by_segment.now)) result }
 {
     if !tables_in_order(tables, segments, settings, by_id, by_segment) {
         return Err(ChangeBufferError::OutOfOrder);
@@ -62,23 +62,23 @@ pub fn get_segment<T: Text, S: Index, G: Index>(
 }
 
 fn standing_number<G: Index>(by_segment: &G, id: u64) -> Option<usize>
-    ensures { result ≡ at (G.Index.held by_segment.now) id }
+    ensures { result ≡ at (G.content by_segment.now).held id }
 {
     by_segment.find(id)
 }
 
 // Accepts the number of a handed-out record, by which its span is read; refused (5) where the number names none.
 pub fn get_handed<T: Text, S: Index, G: Index>(
-    tables: &Tables<'_, '_, '_, '_, '_, '_, '_, T>,
+    tables: &Tables<'_, T>,
     segments: &[Segment<T>],
     settings: &Settings<T>,
     by_id: &S,
     by_segment: &G,
     number: usize,
 ) -> Result<(), ChangeBufferError>
-    ensures value { Answered (handed_number number tables.now.spans.now) (passed tables.now segments.now settings.now (S.Index.held by_id.now) (S.Index.room by_id.now) (G.Index.held by_segment.now) (G.Index.room by_segment.now)) result }
+    ensures value { Answered (handed_number number tables.now.spans.now) (passed tables.now segments.now settings.now (S.content by_id.now) (G.content by_segment.now)) result }
     ensures within { OnOk result (number < length tables.now.spans.now) }
-    ensures call { Asks T.Text.bytes (get_handed number) (λ m _. OneSpan T.Text.bytes m number) (passed tables.now segments.now settings.now (S.Index.held by_id.now) (S.Index.room by_id.now) (G.Index.held by_segment.now) (G.Index.room by_segment.now)) result }
+    ensures call { Asks T.bytes (get_handed number) (λ m _. OneSpan T.bytes m number) (passed tables.now segments.now settings.now (S.content by_id.now) (G.content by_segment.now)) result }
 {
     if !tables_in_order(tables, segments, settings, by_id, by_segment) {
         return Err(ChangeBufferError::OutOfOrder);
@@ -113,15 +113,15 @@ fn is_handed_out(mark: Mark) -> bool
 
 // How many spans are live and how many are handed out, and how many records are free.
 pub fn get_numbers<T: Text, S: Index, G: Index>(
-    tables: &Tables<'_, '_, '_, '_, '_, '_, '_, T>,
+    tables: &Tables<'_, T>,
     segments: &[Segment<T>],
     settings: &Settings<T>,
     by_id: &S,
     by_segment: &G,
 ) -> Result<(usize, usize, usize), ChangeBufferError>
-    ensures value { Answered (Ok (tallies tables.now.spans.now)) (passed tables.now segments.now settings.now (S.Index.held by_id.now) (S.Index.room by_id.now) (G.Index.held by_segment.now) (G.Index.room by_segment.now)) result }
+    ensures value { Answered (Ok (tallies tables.now.spans.now)) (passed tables.now segments.now settings.now (S.content by_id.now) (G.content by_segment.now)) result }
     ensures len { IfOk result (λ n. n.0 + n.1 + n.2 ≡ length tables.now.spans.now) }
-    ensures call { Asks T.Text.bytes get_numbers ThreeNumbers (passed tables.now segments.now settings.now (S.Index.held by_id.now) (S.Index.room by_id.now) (G.Index.held by_segment.now) (G.Index.room by_segment.now)) result }
+    ensures call { Asks T.bytes get_numbers ThreeNumbers (passed tables.now segments.now settings.now (S.content by_id.now) (G.content by_segment.now)) result }
 {
     if !tables_in_order(tables, segments, settings, by_id, by_segment) {
         return Err(ChangeBufferError::OutOfOrder);

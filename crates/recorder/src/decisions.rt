@@ -16,7 +16,7 @@ use texts::Text;
 
 // All three decisions at once, none included; refused (4) where the segment does not stand.
 pub fn set_decisions<T: Text, S: Index, G: Index>(
-    tables: Tables<'_, '_, '_, '_, '_, '_, '_, T>,
+    tables: Tables<'_, T>,
     segments: &mut [Segment<T>],
     settings: &mut Settings<T>,
     by_id: &mut S,
@@ -26,8 +26,8 @@ pub fn set_decisions<T: Text, S: Index, G: Index>(
     limit: Option<f64>,
     agent: Option<f64>,
 ) -> Result<(), ChangeBufferError>
-    ensures call { Performs T.Text.bytes (decisions id rule limit agent) (passed tables.entry segments.old settings.old (S.Index.held by_id.old) (S.Index.room by_id.old) (G.Index.held by_segment.old) (G.Index.room by_segment.old)) (left tables.exit segments.new settings.new (S.Index.held by_id.new) (S.Index.room by_id.new) (G.Index.held by_segment.new) (G.Index.room by_segment.new)) (answer result) }
-    ensures after { (left tables.exit segments.new settings.new (S.Index.held by_id.new) (S.Index.room by_id.new) (G.Index.held by_segment.new) (G.Index.room by_segment.new)) ≡ decided_in id rule limit agent result (passed tables.entry segments.old settings.old (S.Index.held by_id.old) (S.Index.room by_id.old) (G.Index.held by_segment.old) (G.Index.room by_segment.old)) }
+    ensures call { Performs T.bytes (decisions id rule limit agent) (passed tables.entry segments.old settings.old (S.content by_id.old) (G.content by_segment.old)) (left tables.exit segments.new settings.new (S.content by_id.new) (G.content by_segment.new)) (answer result) }
+    ensures after { (left tables.exit segments.new settings.new (S.content by_id.new) (G.content by_segment.new)) ≡ decided_in id rule limit agent result (passed tables.entry segments.old settings.old (S.content by_id.old) (G.content by_segment.old)) }
 {
     if !tables_in_order(&tables, segments, settings, by_id, by_segment) {
         return Err(ChangeBufferError::OutOfOrder);

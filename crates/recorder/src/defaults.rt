@@ -17,15 +17,15 @@ use texts::Text;
 
 // These pairs in place of the last list; refused (2) where they are more than 32.
 pub fn set_default_meta<T: Text, S: Index, G: Index>(
-    tables: Tables<'_, '_, '_, '_, '_, '_, '_, T>,
+    tables: Tables<'_, T>,
     segments: &mut [Segment<T>],
     settings: &mut Settings<T>,
     by_id: &mut S,
     by_segment: &mut G,
     pairs: &[(T, T)],
 ) -> Result<(), ChangeBufferError>
-    ensures call { Performs T.Text.bytes (default_meta (map (text_pair T.Text.bytes) pairs.now)) (passed tables.entry segments.old settings.old (S.Index.held by_id.old) (S.Index.room by_id.old) (G.Index.held by_segment.old) (G.Index.room by_segment.old)) (left tables.exit segments.new settings.new (S.Index.held by_id.new) (S.Index.room by_id.new) (G.Index.held by_segment.new) (G.Index.room by_segment.new)) (answer result) }
-    ensures after { (left tables.exit segments.new settings.new (S.Index.held by_id.new) (S.Index.room by_id.new) (G.Index.held by_segment.new) (G.Index.room by_segment.new)) ≡ replaced pairs.now result (passed tables.entry segments.old settings.old (S.Index.held by_id.old) (S.Index.room by_id.old) (G.Index.held by_segment.old) (G.Index.room by_segment.old)) }
+    ensures call { Performs T.bytes (default_meta (map (text_pair T.bytes) pairs.now)) (passed tables.entry segments.old settings.old (S.content by_id.old) (G.content by_segment.old)) (left tables.exit segments.new settings.new (S.content by_id.new) (G.content by_segment.new)) (answer result) }
+    ensures after { (left tables.exit segments.new settings.new (S.content by_id.new) (G.content by_segment.new)) ≡ replaced pairs.now result (passed tables.entry segments.old settings.old (S.content by_id.old) (G.content by_segment.old)) }
 {
     if !tables_in_order(&tables, segments, settings, by_id, by_segment) {
         return Err(ChangeBufferError::OutOfOrder);

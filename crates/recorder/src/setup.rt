@@ -15,7 +15,7 @@ use texts::Text;
 // Leaves every record free, and indexes, strings and defaults empty; refused (1) where the tables' lengths or the
 // indexes' capacities are not as they must be.
 pub fn set_up<T: Text, S: Index, G: Index>(
-    tables: Tables<'_, '_, '_, '_, '_, '_, '_, T>,
+    tables: Tables<'_, T>,
     segments: &mut [Segment<T>],
     settings: &mut Settings<T>,
     by_id: &mut S,
@@ -24,7 +24,7 @@ pub fn set_up<T: Text, S: Index, G: Index>(
     language: T,
     pid: u32,
 ) -> Result<(), ChangeBufferError>
-    ensures { SetsUp T.Text.bytes service language pid (passed tables.entry segments.old settings.old (S.Index.held by_id.old) (S.Index.room by_id.old) (G.Index.held by_segment.old) (G.Index.room by_segment.old)) (left tables.exit segments.new settings.new (S.Index.held by_id.new) (S.Index.room by_id.new) (G.Index.held by_segment.new) (G.Index.room by_segment.new)) result }
+    ensures { SetsUp T.bytes service language pid (passed tables.entry segments.old settings.old (S.content by_id.old) (G.content by_segment.old)) (left tables.exit segments.new settings.new (S.content by_id.new) (G.content by_segment.new)) result }
 {
     if !tables_sized(&tables, segments, settings, by_id, by_segment) {
         return Err(ChangeBufferError::OutOfOrder);

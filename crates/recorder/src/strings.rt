@@ -16,7 +16,7 @@ use texts::Text;
 
 // Puts a string under a number, in place of what stood there; refused (3) where the table has no such number.
 pub fn string_table_insert_one<T: Text, S: Index, G: Index>(
-    tables: Tables<'_, '_, '_, '_, '_, '_, '_, T>,
+    tables: Tables<'_, T>,
     segments: &mut [Segment<T>],
     settings: &mut Settings<T>,
     by_id: &mut S,
@@ -24,8 +24,8 @@ pub fn string_table_insert_one<T: Text, S: Index, G: Index>(
     key: u32,
     val: T,
 ) -> Result<(), ChangeBufferError>
-    ensures call { Performs T.Text.bytes (string_insert key (T.Text.bytes val)) (passed tables.entry segments.old settings.old (S.Index.held by_id.old) (S.Index.room by_id.old) (G.Index.held by_segment.old) (G.Index.room by_segment.old)) (left tables.exit segments.new settings.new (S.Index.held by_id.new) (S.Index.room by_id.new) (G.Index.held by_segment.new) (G.Index.room by_segment.new)) (answer result) }
-    ensures after { left tables.exit segments.new settings.new (S.Index.held by_id.new) (S.Index.room by_id.new) (G.Index.held by_segment.new) (G.Index.room by_segment.new) ≡ written key (Some val) result (passed tables.entry segments.old settings.old (S.Index.held by_id.old) (S.Index.room by_id.old) (G.Index.held by_segment.old) (G.Index.room by_segment.old)) }
+    ensures call { Performs T.bytes (string_insert key (T.bytes val)) (passed tables.entry segments.old settings.old (S.content by_id.old) (G.content by_segment.old)) (left tables.exit segments.new settings.new (S.content by_id.new) (G.content by_segment.new)) (answer result) }
+    ensures after { left tables.exit segments.new settings.new (S.content by_id.new) (G.content by_segment.new) ≡ written key (Some val) result (passed tables.entry segments.old settings.old (S.content by_id.old) (G.content by_segment.old)) }
 {
     if !tables_in_order(&tables, segments, settings, by_id, by_segment) {
         return Err(ChangeBufferError::OutOfOrder);
@@ -46,15 +46,15 @@ fn insert_one<T: Text>(strings: &mut [Option<T>], key: u32, val: T) -> Result<()
 
 // Takes a string out; nothing past the table's end.
 pub fn string_table_evict_one<T: Text, S: Index, G: Index>(
-    tables: Tables<'_, '_, '_, '_, '_, '_, '_, T>,
+    tables: Tables<'_, T>,
     segments: &mut [Segment<T>],
     settings: &mut Settings<T>,
     by_id: &mut S,
     by_segment: &mut G,
     key: u32,
 ) -> Result<(), ChangeBufferError>
-    ensures call { Performs T.Text.bytes (string_evict key) (passed tables.entry segments.old settings.old (S.Index.held by_id.old) (S.Index.room by_id.old) (G.Index.held by_segment.old) (G.Index.room by_segment.old)) (left tables.exit segments.new settings.new (S.Index.held by_id.new) (S.Index.room by_id.new) (G.Index.held by_segment.new) (G.Index.room by_segment.new)) (answer result) }
-    ensures after { (left tables.exit segments.new settings.new (S.Index.held by_id.new) (S.Index.room by_id.new) (G.Index.held by_segment.new) (G.Index.room by_segment.new)) ≡ written key None result (passed tables.entry segments.old settings.old (S.Index.held by_id.old) (S.Index.room by_id.old) (G.Index.held by_segment.old) (G.Index.room by_segment.old)) }
+    ensures call { Performs T.bytes (string_evict key) (passed tables.entry segments.old settings.old (S.content by_id.old) (G.content by_segment.old)) (left tables.exit segments.new settings.new (S.content by_id.new) (G.content by_segment.new)) (answer result) }
+    ensures after { (left tables.exit segments.new settings.new (S.content by_id.new) (G.content by_segment.new)) ≡ written key None result (passed tables.entry segments.old settings.old (S.content by_id.old) (G.content by_segment.old)) }
 {
     if !tables_in_order(&tables, segments, settings, by_id, by_segment) {
         return Err(ChangeBufferError::OutOfOrder);

@@ -1,5 +1,5 @@
 // The question that every call asks first: are the tables in order?
-ghost use Rattle.std.specs.Prelude.{◌≡◌, ℕ, ◌≤◌, length, Decides};
+ghost use Rattle.std.specs.Prelude.{◌≡◌, ℕ, ◌≤◌, length, ◌↔◌, IsTrue};
 ghost use Rattle.tables.specs.InOrder.{InOrder, Lengths, OthersInOrder, Sized};
 ghost use Rattle.tables.specs.Lent.{passed};
 ghost use Rattle.tables.specs.Store.{store};
@@ -23,7 +23,7 @@ fn lengths_allowed(
     numbers: usize,
     room: usize,
 ) -> bool
-    ensures { Decides result (Lengths most t n records texts numbers room) }
+    ensures { IsTrue result ↔ (Lengths most t n records texts numbers room) }
 {
     1 <= records
         && records <= most
@@ -33,20 +33,20 @@ fn lengths_allowed(
 }
 
 fn others_allowed(strings: usize, defaults: usize, count: usize) -> bool
-    ensures { Decides result (OthersInOrder strings defaults count) }
+    ensures { IsTrue result ↔ (OthersInOrder strings defaults count) }
 {
     1 <= strings && strings <= 65536 && defaults == 32 && count <= 32
 }
 
 // What set-up asks: lengths and capacities alone.
 pub fn tables_sized<T: Text, S: Index, G: Index>(
-    tables: &Tables<'_, '_, '_, '_, '_, '_, '_, T>,
+    tables: &Tables<'_, T>,
     segments: &[Segment<T>],
     settings: &Settings<T>,
     by_id: &S,
     by_segment: &G,
 ) -> bool
-    ensures { Decides result (Sized (passed tables.now segments.now settings.now (S.Index.held by_id.now) (S.Index.room by_id.now) (G.Index.held by_segment.now) (G.Index.room by_segment.now))) }
+    ensures { IsTrue result ↔ (Sized (passed tables.now segments.now settings.now (S.content by_id.now) (G.content by_segment.now))) }
 {
     let room = by_id.capacity();
     if !lengths_allowed(
@@ -77,13 +77,13 @@ pub fn tables_sized<T: Text, S: Index, G: Index>(
 
 // The whole question. Its cost grows with the tables: one look at each record, and one at the index for each record in use.
 pub fn tables_in_order<T: Text, S: Index, G: Index>(
-    tables: &Tables<'_, '_, '_, '_, '_, '_, '_, T>,
+    tables: &Tables<'_, T>,
     segments: &[Segment<T>],
     settings: &Settings<T>,
     by_id: &S,
     by_segment: &G,
 ) -> bool
-    ensures { Decides result (InOrder (passed tables.now segments.now settings.now (S.Index.held by_id.now) (S.Index.room by_id.now) (G.Index.held by_segment.now) (G.Index.room by_segment.now))) }
+    ensures { IsTrue result ↔ (InOrder (passed tables.now segments.now settings.now (S.content by_id.now) (G.content by_segment.now))) }
 {
     if !tables_sized(tables, segments, settings, by_id, by_segment) {
         return false;
@@ -111,7 +111,7 @@ pub fn in_order<T: Text, S: Index, G: Index>(
     by_id: &S,
     by_segment: &G,
 ) -> bool
-    ensures { Decides result (InOrder (store spans.now span_meta.now span_metrics.now segments.now segment_meta.now segment_metrics.now strings.now defaults.now settings.now (S.Index.held by_id.now) (S.Index.room by_id.now) (G.Index.held by_segment.now) (G.Index.room by_segment.now))) }
+    ensures { IsTrue result ↔ (InOrder (store spans.now span_meta.now span_metrics.now segments.now segment_meta.now segment_metrics.now strings.now defaults.now settings.now (S.content by_id.now).held (S.content by_id.now).room (G.content by_segment.now).held (G.content by_segment.now).room)) }
 {
     if !lengths_allowed(
         4096,
@@ -147,13 +147,13 @@ pub fn in_order<T: Text, S: Index, G: Index>(
 
 // Memory in order, and no other, shows a book.
 pub fn shows_a_book<T: Text, S: Index, G: Index>(
-    tables: &Tables<'_, '_, '_, '_, '_, '_, '_, T>,
+    tables: &Tables<'_, T>,
     segments: &[Segment<T>],
     settings: &Settings<T>,
     by_id: &S,
     by_segment: &G,
 ) -> bool
-    ensures { Decides result (ShowsABook T.Text.bytes (passed tables.now segments.now settings.now (S.Index.held by_id.now) (S.Index.room by_id.now) (G.Index.held by_segment.now) (G.Index.room by_segment.now))) }
+    ensures { IsTrue result ↔ (ShowsABook T.bytes (passed tables.now segments.now settings.now (S.content by_id.now) (G.content by_segment.now))) }
 {
     tables_in_order(tables, segments, settings, by_id, by_segment)
 }

@@ -1,5 +1,5 @@
 // Records with an index over them: the question whether each keeps its limits and the index holds just those in use.
-ghost use Rattle.std.specs.Prelude.{◌≡◌, ℕ, ◌≤◌, length, Some, Decides, Option as Maybe};
+ghost use Rattle.std.specs.Prelude.{◌≡◌, ℕ, ◌≤◌, length, Some, Option as Maybe, ◌↔◌, IsTrue};
 ghost use Rattle.index.specs.Held.{at};
 ghost use Rattle.tables.specs.InOrder.{KeptIn, SpanLimits, SegmentLimits};
 ghost use Rattle.tables.specs.Store.{live_key, standing_key};
@@ -21,7 +21,7 @@ pub trait Record {
         ensures { result ≡ key_of self.now };
 
     fn keeps_limits(&self) -> bool
-        ensures { Decides result (limits self.now) };
+        ensures { IsTrue result ↔ (limits self.now) };
 }
 
 impl<T: Text> Record for Span<T> {
@@ -60,7 +60,7 @@ impl<T: Text> Record for Segment<T> {
 }
 
 pub(crate) fn within(count: usize, most: usize) -> bool
-    ensures { Decides result (count ≤ most) }
+    ensures { IsTrue result ↔ (count ≤ most) }
 {
     count <= most
 }
@@ -68,7 +68,7 @@ pub(crate) fn within(count: usize, most: usize) -> bool
 // Whether each record keeps its limits, and the index holds the keys of those in use and nothing else. It goes once over
 // the records, and asks the index once for each that is in use.
 pub fn kept_in<R: Record, I: Index>(records: &[R], index: &I) -> bool
-    ensures { Decides result (KeptIn R.Record.key_of R.Record.limits records.now (I.Index.held index.now)) }
+    ensures { IsTrue result ↔ (KeptIn R.key_of R.limits records.now (I.content index.now).held) }
 {
     let mut used: usize = 0;
     for i in 0..records.len() {
@@ -87,13 +87,13 @@ pub fn kept_in<R: Record, I: Index>(records: &[R], index: &I) -> bool
 }
 
 fn finds<I: Index>(index: &I, id: u64, number: usize) -> bool
-    ensures { Decides result (at (I.Index.held index.now) id ≡ Some number) }
+    ensures { IsTrue result ↔ (at (I.content index.now).held id ≡ Some number) }
 {
     index.find(id) == Some(number)
 }
 
 fn counts<I: Index>(index: &I, used: usize) -> bool
-    ensures { Decides result (length (I.Index.held index.now) ≡ used) }
+    ensures { IsTrue result ↔ (length (I.content index.now).held ≡ used) }
 {
     index.count() == used
 }

@@ -44,7 +44,7 @@ impl<T: Text> Reset for Option<T> {
 
 pub fn reset_all<R: Reset>(table: &mut [R])
     ensures len { length table.new ≡ length table.old }
-    ensures items { (k : ℕ) (x : R) → slice_get table.new k ≡ Some x → R.Reset.empty x }
+    ensures items { (k : ℕ) (x : R) → slice_get table.new k ≡ Some x → R.empty x }
 {
     for i in 0..table.len() {
         table[i].reset();

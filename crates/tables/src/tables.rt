@@ -3,15 +3,15 @@ use crate::span::Span;
 
 // All tables but the segments, whose records hold floats and are lent beside these. A call takes it apart at once.
 #[derive(Drop)]
-pub struct Tables<'a, 'b, 'c, 'd, 'e, 'f, 'g, T> {
+pub struct Tables<'a, T> {
     pub spans: &'a mut [Span<T>],
     // 99 text pairs and 54 number pairs for each span record.
-    pub span_meta: &'b mut [(T, T)],
-    pub span_metrics: &'c mut [(T, u64)],
+    pub span_meta: &'a mut [(T, T)],
+    pub span_metrics: &'a mut [(T, u64)],
     // 32 text pairs and 16 number pairs for each segment record.
-    pub segment_meta: &'d mut [(T, T)],
-    pub segment_metrics: &'e mut [(T, u64)],
-    pub strings: &'f mut [Option<T>],
+    pub segment_meta: &'a mut [(T, T)],
+    pub segment_metrics: &'a mut [(T, u64)],
+    pub strings: &'a mut [Option<T>],
     // 32 default pairs.
-    pub defaults: &'g mut [(T, T)],
+    pub defaults: &'a mut [(T, T)],
 }

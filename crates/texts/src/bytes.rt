@@ -1,5 +1,5 @@
 // Bytes of a slice: the one at a place, and whether two slices have the same.
-ghost use Rattle.std.specs.Prelude.{◌≡◌, Decides};
+ghost use Rattle.std.specs.Prelude.{◌≡◌, ◌↔◌, IsTrue};
 ghost use Rattle.texts.specs.Words.{At};
 
 // The byte at a place, none past the end.
@@ -15,7 +15,7 @@ pub fn byte_of(bytes: &[u8], place: usize) -> Option<u8>
 
 // Whether both slices hold the same bytes.
 pub fn same_bytes(a: &[u8], b: &[u8]) -> bool
-    ensures { Decides result (a.now ≡ b.now) }
+    ensures { IsTrue result ↔ (a.now ≡ b.now) }
 {
     a == b
 }

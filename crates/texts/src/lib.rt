@@ -1,7 +1,7 @@
 // Texts: what every kind of text can do, by its bytes, and two kinds of it.
 #![tactic(auto)]
 
-ghost use Rattle.std.specs.Prelude.{◌≡◌, ℕ, ◌≤◌, List, length, Decides};
+ghost use Rattle.std.specs.Prelude.{◌≡◌, ℕ, ◌≤◌, List, length, ◌↔◌, IsTrue};
 ghost use Rattle.texts.specs.Words.{At, fixed};
 
 pub mod bytes;
@@ -34,5 +34,5 @@ pub trait Text: Copy {
 
     // Whether both have the same bytes.
     fn same(&self, other: &Self) -> bool
-        ensures { Decides result (bytes self.now ≡ bytes other.now) };
+        ensures { IsTrue result ↔ (bytes self.now ≡ bytes other.now) };
 }

@@ -18,9 +18,9 @@ pub trait Key: Copy {
 
 // Every text is a key, by its bytes.
 impl<T: Text> Key for T {
-    ghost alike = { λ a b. bytes_eq (T.Text.bytes a) (T.Text.bytes b) };
+    ghost alike = { λ a b. bytes_eq (T.bytes a) (T.bytes b) };
 
-    ghost fair = { same_bytes_fair T.Text.bytes };
+    ghost fair = { same_bytes_fair T.bytes };
 
     fn same_key(&self, other: &T) -> bool {
         self.same(other)

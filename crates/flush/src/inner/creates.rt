@@ -33,8 +33,8 @@ pub fn create_span<T: Text, S: Index, G: Index>(
     id: u64,
     extra: Extra,
 ) -> Result<()>
-    requires order { (m : Store T) × InOrder (create_parts spans.old span_meta.old segments.old defaults.now settings.old (S.Index.held by_id.old) (S.Index.room by_id.old) (G.Index.held by_segment.old) (G.Index.room by_segment.old) m) }
-    ensures played { MakesOne T.Text.bytes id (perform (creates (fields_of extra)) id) (held buffer.now) (λ m. with_strings strings.now (create_parts spans.old span_meta.old segments.old defaults.now settings.old (S.Index.held by_id.old) (S.Index.room by_id.old) (G.Index.held by_segment.old) (G.Index.room by_segment.old) m)) (λ m. with_strings strings.now (create_parts spans.new span_meta.new segments.new defaults.now settings.new (S.Index.held by_id.new) (S.Index.room by_id.new) (G.Index.held by_segment.new) (G.Index.room by_segment.new) m)) index.old index.new result }
+    requires order { (m : Store T) × InOrder (create_parts spans.old span_meta.old segments.old defaults.now settings.old (S.content by_id.old).held (S.content by_id.old).room (G.content by_segment.old).held (G.content by_segment.old).room m) }
+    ensures played { MakesOne T.bytes id (perform (creates (fields_of extra)) id) (held buffer.now) (λ m. with_strings strings.now (create_parts spans.old span_meta.old segments.old defaults.now settings.old (S.content by_id.old).held (S.content by_id.old).room (G.content by_segment.old).held (G.content by_segment.old).room m)) (λ m. with_strings strings.now (create_parts spans.new span_meta.new segments.new defaults.now settings.new (S.content by_id.new).held (S.content by_id.new).room (G.content by_segment.new).held (G.content by_segment.new).room m)) index.old index.new result }
 {
     let creation = read_creation(buffer, index, strings, extra)?;
     let Creation { segment, making } = creation;

@@ -45,10 +45,10 @@ fn perform<T: Text, S: Index, G: Index>(
     id: u64,
     operation: Operation,
 ) -> Result<()>
-    requires order { InOrder (store spans.old span_meta.old span_metrics.old segments.old segment_meta.old segment_metrics.old strings.now defaults.now settings.old (S.Index.held by_id.old) (S.Index.room by_id.old) (G.Index.held by_segment.old) (G.Index.room by_segment.old)) }
-    requires cached { Cached (S.Index.held by_id.old) last.old }
-    ensures played { Played T.Text.bytes (performs (meaning operation) id) (made_by operation id) (held buffer.now) (store spans.old span_meta.old span_metrics.old segments.old segment_meta.old segment_metrics.old strings.now defaults.now settings.old (S.Index.held by_id.old) (S.Index.room by_id.old) (G.Index.held by_segment.old) (G.Index.room by_segment.old)) (store spans.new span_meta.new span_metrics.new segments.new segment_meta.new segment_metrics.new strings.now defaults.now settings.new (S.Index.held by_id.new) (S.Index.room by_id.new) (G.Index.held by_segment.new) (G.Index.room by_segment.new)) index.old index.new result }
-    ensures cached { Cached (S.Index.held by_id.new) last.new }
+    requires order { InOrder (store spans.old span_meta.old span_metrics.old segments.old segment_meta.old segment_metrics.old strings.now defaults.now settings.old (S.content by_id.old).held (S.content by_id.old).room (G.content by_segment.old).held (G.content by_segment.old).room) }
+    requires cached { Cached (S.content by_id.old).held last.old }
+    ensures played { Played T.bytes (performs (meaning operation) id) (made_by operation id) (held buffer.now) (store spans.old span_meta.old span_metrics.old segments.old segment_meta.old segment_metrics.old strings.now defaults.now settings.old (S.content by_id.old).held (S.content by_id.old).room (G.content by_segment.old).held (G.content by_segment.old).room) (store spans.new span_meta.new span_metrics.new segments.new segment_meta.new segment_metrics.new strings.now defaults.now settings.new (S.content by_id.new).held (S.content by_id.new).room (G.content by_segment.new).held (G.content by_segment.new).room) index.old index.new result }
+    ensures cached { Cached (S.content by_id.new).held last.new }
 {
     match operation {
         Operation::Creates(extra) => create_span(
@@ -103,10 +103,10 @@ fn operate<T: Text, S: Index, G: Index>(
     by_id: &mut S,
     by_segment: &mut G,
 ) -> Result<()>
-    requires order { InOrder (store spans.old span_meta.old span_metrics.old segments.old segment_meta.old segment_metrics.old strings.now defaults.now settings.old (S.Index.held by_id.old) (S.Index.room by_id.old) (G.Index.held by_segment.old) (G.Index.room by_segment.old)) }
-    requires cached { Cached (S.Index.held by_id.old) last.old }
-    ensures played { Played T.Text.bytes one-operation (Created (held buffer.now)) (held buffer.now) (store spans.old span_meta.old span_metrics.old segments.old segment_meta.old segment_metrics.old strings.now defaults.now settings.old (S.Index.held by_id.old) (S.Index.room by_id.old) (G.Index.held by_segment.old) (G.Index.room by_segment.old)) (store spans.new span_meta.new span_metrics.new segments.new segment_meta.new segment_metrics.new strings.now defaults.now settings.new (S.Index.held by_id.new) (S.Index.room by_id.new) (G.Index.held by_segment.new) (G.Index.room by_segment.new)) index.old index.new result }
-    ensures cached { Cached (S.Index.held by_id.new) last.new }
+    requires order { InOrder (store spans.old span_meta.old span_metrics.old segments.old segment_meta.old segment_metrics.old strings.now defaults.now settings.old (S.content by_id.old).held (S.content by_id.old).room (G.content by_segment.old).held (G.content by_segment.old).room) }
+    requires cached { Cached (S.content by_id.old).held last.old }
+    ensures played { Played T.bytes one-operation (Created (held buffer.now)) (held buffer.now) (store spans.old span_meta.old span_metrics.old segments.old segment_meta.old segment_metrics.old strings.now defaults.now settings.old (S.content by_id.old).held (S.content by_id.old).room (G.content by_segment.old).held (G.content by_segment.old).room) (store spans.new span_meta.new span_metrics.new segments.new segment_meta.new segment_metrics.new strings.now defaults.now settings.new (S.content by_id.new).held (S.content by_id.new).room (G.content by_segment.new).held (G.content by_segment.new).room) index.old index.new result }
+    ensures cached { Cached (S.content by_id.new).held last.new }
 {
     let head = BufferedOperation::from_buf(buffer, index)?;
     let operation = operation_of(head.opcode);
@@ -146,8 +146,8 @@ fn operate_times<T: Text, S: Index, G: Index>(
     by_segment: &mut G,
     count: u32,
 ) -> Result<()>
-    requires order { InOrder (store spans.old span_meta.old span_metrics.old segments.old segment_meta.old segment_metrics.old strings.now defaults.now settings.old (S.Index.held by_id.old) (S.Index.room by_id.old) (G.Index.held by_segment.old) (G.Index.room by_segment.old)) }
-    ensures played { Played T.Text.bytes (times count one-operation) (Created (held buffer.now)) (held buffer.now) (store spans.old span_meta.old span_metrics.old segments.old segment_meta.old segment_metrics.old strings.now defaults.now settings.old (S.Index.held by_id.old) (S.Index.room by_id.old) (G.Index.held by_segment.old) (G.Index.room by_segment.old)) (store spans.new span_meta.new span_metrics.new segments.new segment_meta.new segment_metrics.new strings.now defaults.now settings.new (S.Index.held by_id.new) (S.Index.room by_id.new) (G.Index.held by_segment.new) (G.Index.room by_segment.new)) index.old index.new result }
+    requires order { InOrder (store spans.old span_meta.old span_metrics.old segments.old segment_meta.old segment_metrics.old strings.now defaults.now settings.old (S.content by_id.old).held (S.content by_id.old).room (G.content by_segment.old).held (G.content by_segment.old).room) }
+    ensures played { Played T.bytes (times count one-operation) (Created (held buffer.now)) (held buffer.now) (store spans.old span_meta.old span_metrics.old segments.old segment_meta.old segment_metrics.old strings.now defaults.now settings.old (S.content by_id.old).held (S.content by_id.old).room (G.content by_segment.old).held (G.content by_segment.old).room) (store spans.new span_meta.new span_metrics.new segments.new segment_meta.new segment_metrics.new strings.now defaults.now settings.new (S.content by_id.new).held (S.content by_id.new).room (G.content by_segment.new).held (G.content by_segment.new).room) index.old index.new result }
 {
     let mut last = None;
     for i in 0..count {
@@ -187,8 +187,8 @@ pub fn flush<T: Text, S: Index, G: Index>(
     by_id: &mut S,
     by_segment: &mut G,
 ) -> Result<()>
-    requires order { InOrder (store spans.old span_meta.old span_metrics.old segments.old segment_meta.old segment_metrics.old strings.now defaults.now settings.old (S.Index.held by_id.old) (S.Index.room by_id.old) (G.Index.held by_segment.old) (G.Index.room by_segment.old)) }
-    ensures played { Played T.Text.bytes all-operations (Created (held buffer.now)) (held buffer.now) (store spans.old span_meta.old span_metrics.old segments.old segment_meta.old segment_metrics.old strings.now defaults.now settings.old (S.Index.held by_id.old) (S.Index.room by_id.old) (G.Index.held by_segment.old) (G.Index.room by_segment.old)) (store spans.new span_meta.new span_metrics.new segments.new segment_meta.new segment_metrics.new strings.now defaults.now settings.new (S.Index.held by_id.new) (S.Index.room by_id.new) (G.Index.held by_segment.new) (G.Index.room by_segment.new)) index.old index.new result }
+    requires order { InOrder (store spans.old span_meta.old span_metrics.old segments.old segment_meta.old segment_metrics.old strings.now defaults.now settings.old (S.content by_id.old).held (S.content by_id.old).room (G.content by_segment.old).held (G.content by_segment.old).room) }
+    ensures played { Played T.bytes all-operations (Created (held buffer.now)) (held buffer.now) (store spans.old span_meta.old span_metrics.old segments.old segment_meta.old segment_metrics.old strings.now defaults.now settings.old (S.content by_id.old).held (S.content by_id.old).room (G.content by_segment.old).held (G.content by_segment.old).room) (store spans.new span_meta.new span_metrics.new segments.new segment_meta.new segment_metrics.new strings.now defaults.now settings.new (S.content by_id.new).held (S.content by_id.new).room (G.content by_segment.new).held (G.content by_segment.new).room) index.old index.new result }
     ensures bound { OnOk result (index.old + 8 ≤ length (held buffer.now)) }
 {
     let count: u64 = buffer.read(index)?;
@@ -225,8 +225,8 @@ pub fn flush_bytes<T: Text, S: Index, G: Index>(
     by_id: &mut S,
     by_segment: &mut G,
 ) -> Result<()>
-    requires order { InOrder (store spans.old span_meta.old span_metrics.old segments.old segment_meta.old segment_metrics.old strings.now defaults.now settings.old (S.Index.held by_id.old) (S.Index.room by_id.old) (G.Index.held by_segment.old) (G.Index.room by_segment.old)) }
-    ensures flushes { Flushes T.Text.bytes bytes.old (store spans.old span_meta.old span_metrics.old segments.old segment_meta.old segment_metrics.old strings.now defaults.now settings.old (S.Index.held by_id.old) (S.Index.room by_id.old) (G.Index.held by_segment.old) (G.Index.room by_segment.old)) (store spans.new span_meta.new span_metrics.new segments.new segment_meta.new segment_metrics.new strings.now defaults.now settings.new (S.Index.held by_id.new) (S.Index.room by_id.new) (G.Index.held by_segment.new) (G.Index.room by_segment.new)) (answer result) }
+    requires order { InOrder (store spans.old span_meta.old span_metrics.old segments.old segment_meta.old segment_metrics.old strings.now defaults.now settings.old (S.content by_id.old).held (S.content by_id.old).room (G.content by_segment.old).held (G.content by_segment.old).room) }
+    ensures flushes { Flushes T.bytes bytes.old (store spans.old span_meta.old span_metrics.old segments.old segment_meta.old segment_metrics.old strings.now defaults.now settings.old (S.content by_id.old).held (S.content by_id.old).room (G.content by_segment.old).held (G.content by_segment.old).room) (store spans.new span_meta.new span_metrics.new segments.new segment_meta.new segment_metrics.new strings.now defaults.now settings.new (S.content by_id.new).held (S.content by_id.new).room (G.content by_segment.new).held (G.content by_segment.new).room) (answer result) }
     ensures after { bytes.new ≡ buffer_after (answer result) bytes.old }
 {
     let buffer = ChangeBuffer::new(bytes);

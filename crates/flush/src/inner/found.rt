@@ -16,9 +16,9 @@ pub struct Found {
 
 // Looks into the index only where another span was found last.
 pub fn find_span<S: Index>(by_id: &S, last: &mut Option<Found>, id: u64) -> Result<usize>
-    requires cached { Cached (S.Index.held by_id.now) last.old }
-    ensures cached { Cached (S.Index.held by_id.now) last.new }
-    ensures finds { Finds (S.Index.held by_id.now) id result }
+    requires cached { Cached (S.content by_id.now).held last.old }
+    ensures cached { Cached (S.content by_id.now).held last.new }
+    ensures finds { Finds (S.content by_id.now).held id result }
 {
     let kept = *last;
     if let Some(found) = kept {

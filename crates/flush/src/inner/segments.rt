@@ -26,10 +26,10 @@ pub fn on_segment<T: Text, G: Index>(
     segment: u64,
     operation: OnSegment,
 ) -> Result<()>
-    requires within { HeldWithin (G.Index.held by_segment.now) (length segments.old) }
+    requires within { HeldWithin (G.content by_segment.now).held (length segments.old) }
     requires text_rows { length segment_meta.old ≡ length segments.old * 32 }
     requires number_rows { length segment_metrics.old ≡ length segments.old * 16 }
-    ensures played { OnAny T.Text.bytes (note_attribute (segment_attribute operation) segment) (held buffer.now) (λ m. with_strings strings.now (with_seats (G.Index.held by_segment.now) (with_segment_metrics segment_metrics.old (with_segment_meta segment_meta.old (with_segments segments.old m))))) (λ m. with_strings strings.now (with_seats (G.Index.held by_segment.now) (with_segment_metrics segment_metrics.new (with_segment_meta segment_meta.new (with_segments segments.new m))))) index.old index.new result }
+    ensures played { OnAny T.bytes (note_attribute (segment_attribute operation) segment) (held buffer.now) (λ m. with_strings strings.now (with_seats (G.content by_segment.now).held (with_segment_metrics segment_metrics.old (with_segment_meta segment_meta.old (with_segments segments.old m))))) (λ m. with_strings strings.now (with_seats (G.content by_segment.now).held (with_segment_metrics segment_metrics.new (with_segment_meta segment_meta.new (with_segments segments.new m))))) index.old index.new result }
 {
     match operation {
         OnSegment::Meta => set_trace_meta(

@@ -28,7 +28,7 @@ pub fn on_span<T: Text>(
     requires within { number < length spans.old }
     requires text_row { number * 99 + 99 ≤ length span_meta.old }
     requires number_row { number * 54 + 54 ≤ length span_metrics.old }
-    ensures played { OnLive T.Text.bytes id number (span_act operation id) (held buffer.now) (λ m. with_strings strings.now (with_span_metrics span_metrics.old (with_span_meta span_meta.old (with_spans spans.old m)))) (λ m. with_strings strings.now (with_span_metrics span_metrics.new (with_span_meta span_meta.new (with_spans spans.new m)))) index.old index.new result }
+    ensures played { OnLive T.bytes id number (span_act operation id) (held buffer.now) (λ m. with_strings strings.now (with_span_metrics span_metrics.old (with_span_meta span_meta.old (with_spans spans.old m)))) (λ m. with_strings strings.now (with_span_metrics span_metrics.new (with_span_meta span_meta.new (with_spans spans.new m)))) index.old index.new result }
 {
     match operation {
         OnSpan::Meta => set_meta(buffer, index, strings, spans, span_meta, id, number),

@@ -24,7 +24,7 @@ pub fn batch_set_meta<T: Text>(
 ) -> Result<()>
     requires within { number < length spans.old }
     requires row { number * 99 + 99 ≤ length span_meta.old }
-    ensures played { OnLive T.Text.bytes id number (set_counted S_S id) (held buffer.now) (λ m. with_strings strings.now (with_span_meta span_meta.old (with_spans spans.old m))) (λ m. with_strings strings.now (with_span_meta span_meta.new (with_spans spans.new m))) index.old index.new result }
+    ensures played { OnLive T.bytes id number (set_counted S_S id) (held buffer.now) (λ m. with_strings strings.now (with_span_meta span_meta.old (with_spans spans.old m))) (λ m. with_strings strings.now (with_span_meta span_meta.new (with_spans spans.new m))) index.old index.new result }
 {
     let count: u32 = buffer.read(index)?;
     set_meta_times(buffer, index, strings, spans, span_meta, id, number, count)
@@ -42,7 +42,7 @@ fn set_meta_times<T: Text>(
 ) -> Result<()>
     requires within { number < length spans.old }
     requires row { number * 99 + 99 ≤ length span_meta.old }
-    ensures played { OnLive T.Text.bytes id number (times count (set_attribute S_S id)) (held buffer.now) (λ m. with_strings strings.now (with_span_meta span_meta.old (with_spans spans.old m))) (λ m. with_strings strings.now (with_span_meta span_meta.new (with_spans spans.new m))) index.old index.new result }
+    ensures played { OnLive T.bytes id number (times count (set_attribute S_S id)) (held buffer.now) (λ m. with_strings strings.now (with_span_meta span_meta.old (with_spans spans.old m))) (λ m. with_strings strings.now (with_span_meta span_meta.new (with_spans spans.new m))) index.old index.new result }
 {
     for i in 0..count {
         set_meta(buffer, index, strings, spans, span_meta, id, number)?;
@@ -61,7 +61,7 @@ pub fn batch_set_metric<T: Text>(
 ) -> Result<()>
     requires within { number < length spans.old }
     requires row { number * 54 + 54 ≤ length span_metrics.old }
-    ensures played { OnLive T.Text.bytes id number (set_counted S_F id) (held buffer.now) (λ m. with_strings strings.now (with_span_metrics span_metrics.old (with_spans spans.old m))) (λ m. with_strings strings.now (with_span_metrics span_metrics.new (with_spans spans.new m))) index.old index.new result }
+    ensures played { OnLive T.bytes id number (set_counted S_F id) (held buffer.now) (λ m. with_strings strings.now (with_span_metrics span_metrics.old (with_spans spans.old m))) (λ m. with_strings strings.now (with_span_metrics span_metrics.new (with_spans spans.new m))) index.old index.new result }
 {
     let count: u32 = buffer.read(index)?;
     set_metric_times(
@@ -88,7 +88,7 @@ fn set_metric_times<T: Text>(
 ) -> Result<()>
     requires within { number < length spans.old }
     requires row { number * 54 + 54 ≤ length span_metrics.old }
-    ensures played { OnLive T.Text.bytes id number (times count (set_attribute S_F id)) (held buffer.now) (λ m. with_strings strings.now (with_span_metrics span_metrics.old (with_spans spans.old m))) (λ m. with_strings strings.now (with_span_metrics span_metrics.new (with_spans spans.new m))) index.old index.new result }
+    ensures played { OnLive T.bytes id number (times count (set_attribute S_F id)) (held buffer.now) (λ m. with_strings strings.now (with_span_metrics span_metrics.old (with_spans spans.old m))) (λ m. with_strings strings.now (with_span_metrics span_metrics.new (with_spans spans.new m))) index.old index.new result }
 {
     for i in 0..count {
         set_metric(buffer, index, strings, spans, span_metrics, id, number)?;

@@ -25,9 +25,9 @@ pub fn set_trace_meta<T: Text, G: Index>(
     by_segment: &G,
     segment: u64,
 ) -> Result<()>
-    requires within { HeldWithin (G.Index.held by_segment.now) (length segments.old) }
+    requires within { HeldWithin (G.content by_segment.now).held (length segments.old) }
     requires rows { length segment_meta.old ≡ length segments.old * 32 }
-    ensures played { OnAny T.Text.bytes (note_attribute S_S segment) (held buffer.now) (λ m. with_strings strings.now (with_seats (G.Index.held by_segment.now) (with_segment_meta segment_meta.old (with_segments segments.old m)))) (λ m. with_strings strings.now (with_seats (G.Index.held by_segment.now) (with_segment_meta segment_meta.new (with_segments segments.new m)))) index.old index.new result }
+    ensures played { OnAny T.bytes (note_attribute S_S segment) (held buffer.now) (λ m. with_strings strings.now (with_seats (G.content by_segment.now).held (with_segment_meta segment_meta.old (with_segments segments.old m)))) (λ m. with_strings strings.now (with_seats (G.content by_segment.now).held (with_segment_meta segment_meta.new (with_segments segments.new m)))) index.old index.new result }
 {
     let (key, value) = read_meta(buffer, index, strings)?;
     add_segment_meta(segments, segment_meta, by_segment, segment, key, value)
@@ -42,9 +42,9 @@ pub fn set_trace_metric<T: Text, G: Index>(
     by_segment: &G,
     segment: u64,
 ) -> Result<()>
-    requires within { HeldWithin (G.Index.held by_segment.now) (length segments.old) }
+    requires within { HeldWithin (G.content by_segment.now).held (length segments.old) }
     requires rows { length segment_metrics.old ≡ length segments.old * 16 }
-    ensures played { OnAny T.Text.bytes (note_attribute S_F segment) (held buffer.now) (λ m. with_strings strings.now (with_seats (G.Index.held by_segment.now) (with_segment_metrics segment_metrics.old (with_segments segments.old m)))) (λ m. with_strings strings.now (with_seats (G.Index.held by_segment.now) (with_segment_metrics segment_metrics.new (with_segments segments.new m)))) index.old index.new result }
+    ensures played { OnAny T.bytes (note_attribute S_F segment) (held buffer.now) (λ m. with_strings strings.now (with_seats (G.content by_segment.now).held (with_segment_metrics segment_metrics.old (with_segments segments.old m)))) (λ m. with_strings strings.now (with_seats (G.content by_segment.now).held (with_segment_metrics segment_metrics.new (with_segments segments.new m)))) index.old index.new result }
 {
     let (key, bits) = read_metric(buffer, index, strings)?;
     add_segment_metric(segments, segment_metrics, by_segment, segment, key, bits)
@@ -58,8 +58,8 @@ pub fn set_trace_origin<T: Text, G: Index>(
     by_segment: &G,
     segment: u64,
 ) -> Result<()>
-    requires within { HeldWithin (G.Index.held by_segment.now) (length segments.old) }
-    ensures played { OnAny T.Text.bytes (note_attribute origin_attribute segment) (held buffer.now) (λ m. with_strings strings.now (with_seats (G.Index.held by_segment.now) (with_segments segments.old m))) (λ m. with_strings strings.now (with_seats (G.Index.held by_segment.now) (with_segments segments.new m))) index.old index.new result }
+    requires within { HeldWithin (G.content by_segment.now).held (length segments.old) }
+    ensures played { OnAny T.bytes (note_attribute origin_attribute segment) (held buffer.now) (λ m. with_strings strings.now (with_seats (G.content by_segment.now).held (with_segments segments.old m))) (λ m. with_strings strings.now (with_seats (G.content by_segment.now).held (with_segments segments.new m))) index.old index.new result }
 {
     let value = buffer.read_string(strings, index)?;
     set_origin(segments, by_segment, segment, value);

@@ -28,7 +28,7 @@ pub fn set_meta<T: Text>(
 ) -> Result<()>
     requires within { number < length spans.old }
     requires row { number * 99 + 99 ≤ length span_meta.old }
-    ensures played { OnLive T.Text.bytes id number (set_attribute S_S id) (held buffer.now) (λ m. with_strings strings.now (with_span_meta span_meta.old (with_spans spans.old m))) (λ m. with_strings strings.now (with_span_meta span_meta.new (with_spans spans.new m))) index.old index.new result }
+    ensures played { OnLive T.bytes id number (set_attribute S_S id) (held buffer.now) (λ m. with_strings strings.now (with_span_meta span_meta.old (with_spans spans.old m))) (λ m. with_strings strings.now (with_span_meta span_meta.new (with_spans spans.new m))) index.old index.new result }
 {
     let (key, value) = read_meta(buffer, index, strings)?;
     add_meta(spans, span_meta, id, number, key, value)
@@ -45,7 +45,7 @@ pub fn set_metric<T: Text>(
 ) -> Result<()>
     requires within { number < length spans.old }
     requires row { number * 54 + 54 ≤ length span_metrics.old }
-    ensures played { OnLive T.Text.bytes id number (set_attribute S_F id) (held buffer.now) (λ m. with_strings strings.now (with_span_metrics span_metrics.old (with_spans spans.old m))) (λ m. with_strings strings.now (with_span_metrics span_metrics.new (with_spans spans.new m))) index.old index.new result }
+    ensures played { OnLive T.bytes id number (set_attribute S_F id) (held buffer.now) (λ m. with_strings strings.now (with_span_metrics span_metrics.old (with_spans spans.old m))) (λ m. with_strings strings.now (with_span_metrics span_metrics.new (with_spans spans.new m))) index.old index.new result }
 {
     let (key, bits) = read_metric(buffer, index, strings)?;
     add_metric(spans, span_metrics, id, number, key, bits)
@@ -61,7 +61,7 @@ pub fn set_span_field<T: Text>(
     name: FieldName,
 ) -> Result<()>
     requires within { number < length spans.old }
-    ensures played { OnLive T.Text.bytes id number (set_attribute (attribute_of name) id) (held buffer.now) (λ m. with_strings strings.now (with_spans spans.old m)) (λ m. with_strings strings.now (with_spans spans.new m)) index.old index.new result }
+    ensures played { OnLive T.bytes id number (set_attribute (attribute_of name) id) (held buffer.now) (λ m. with_strings strings.now (with_spans spans.old m)) (λ m. with_strings strings.now (with_spans spans.new m)) index.old index.new result }
 {
     let field = read_field(buffer, index, strings, name)?;
     set_field(spans, id, number, field);

@@ -87,9 +87,9 @@ fn write_span<T: Text>(
 
 // A put that finds room.
 fn put_number<I: Index>(index: &mut I, id: u64, number: usize)
-    requires room { Roomy (I.Index.held index.old) (I.Index.room index.old) id }
-    ensures sets { Puts (I.Index.held index.old) (I.Index.held index.new) id number }
-    ensures capacity { I.Index.room index.new ≡ I.Index.room index.old }
+    requires room { Roomy (I.content index.old).held (I.content index.old).room id }
+    ensures sets { Puts (I.content index.old).held (I.content index.new).held id number }
+    ensures capacity { (I.content index.new).room ≡ (I.content index.old).room }
 {
     let _ = index.put(id, number);
 }
@@ -110,9 +110,9 @@ fn make_span<T: Text, S: Index>(
     requires place { number * 99 + 99 ≤ length span_meta.old }
     requires pairs { settings.old.defaults ≤ length defaults.now }
     requires bound { settings.old.defaults ≤ 32 }
-    requires room { Roomy (S.Index.held by_id.old) (S.Index.room by_id.old) id }
-    ensures makes { Makes spans.old spans.new span_meta.old span_meta.new defaults.now settings.old settings.new (S.Index.held by_id.old) (S.Index.held by_id.new) id segment number making }
-    ensures capacity { S.Index.room by_id.new ≡ S.Index.room by_id.old }
+    requires room { Roomy (S.content by_id.old).held (S.content by_id.old).room id }
+    ensures makes { Makes spans.old spans.new span_meta.old span_meta.new defaults.now settings.old settings.new (S.content by_id.old).held (S.content by_id.new).held id segment number making }
+    ensures capacity { (S.content by_id.new).room ≡ (S.content by_id.old).room }
 {
     let count = settings.defaults;
     fill_defaults(span_meta, number, defaults, count);
@@ -159,11 +159,11 @@ fn enter_segment<T: Text, G: Index>(
     seat: usize,
 )
     requires within { seat < length segments.old }
-    requires own { RecordFor gone (G.Index.held by_segment.old) segments.old id seat }
+    requires own { RecordFor gone (G.content by_segment.old).held segments.old id seat }
     requires bound { CanGrow segments.old seat }
-    requires room { Roomy (G.Index.held by_segment.old) (G.Index.room by_segment.old) id }
-    ensures enters { Enters segments.old segments.new (G.Index.held by_segment.old) (G.Index.held by_segment.new) id seat }
-    ensures capacity { G.Index.room by_segment.new ≡ G.Index.room by_segment.old }
+    requires room { Roomy (G.content by_segment.old).held (G.content by_segment.old).room id }
+    ensures enters { Enters segments.old segments.new (G.content by_segment.old).held (G.content by_segment.new).held id seat }
+    ensures capacity { (G.content by_segment.new).room ≡ (G.content by_segment.old).room }
 {
     if count_one(&mut segments[seat], id) {
         put_number(by_segment, id, seat);
@@ -184,8 +184,8 @@ pub fn create<T: Text, S: Index, G: Index>(
     segment: u64,
     making: Making<T>,
 ) -> Result<()>
-    requires order { (m : Store T) × InOrder (create_parts spans.old span_meta.old segments.old defaults.now settings.old (S.Index.held by_id.old) (S.Index.room by_id.old) (G.Index.held by_segment.old) (G.Index.room by_segment.old) m) }
-    ensures done { Creates T.Text.bytes id segment making (create_parts spans.old span_meta.old segments.old defaults.now settings.old (S.Index.held by_id.old) (S.Index.room by_id.old) (G.Index.held by_segment.old) (G.Index.room by_segment.old)) (create_parts spans.new span_meta.new segments.new defaults.now settings.new (S.Index.held by_id.new) (S.Index.room by_id.new) (G.Index.held by_segment.new) (G.Index.room by_segment.new)) result }
+    requires order { (m : Store T) × InOrder (create_parts spans.old span_meta.old segments.old defaults.now settings.old (S.content by_id.old).held (S.content by_id.old).room (G.content by_segment.old).held (G.content by_segment.old).room m) }
+    ensures done { Creates T.bytes id segment making (create_parts spans.old span_meta.old segments.old defaults.now settings.old (S.content by_id.old).held (S.content by_id.old).room (G.content by_segment.old).held (G.content by_segment.old).room) (create_parts spans.new span_meta.new segments.new defaults.now settings.new (S.content by_id.new).held (S.content by_id.new).room (G.content by_segment.new).held (G.content by_segment.new).room) result }
 {
     let Some(number) = record_for(spans, by_id, id, settings.next_free) else {
         return Err(ChangeBufferError::NoRecord(id));

@@ -11,7 +11,7 @@ use texts::Text;
 // Sets a field of the live span with this id, whose record has this number.
 pub fn set_field<T: Text>(spans: &mut [Span<T>], id: u64, number: usize, field: SpanField<T>)
     requires within { number < length spans.old }
-    ensures done { OnSpanHeld T.Text.bytes id number (field_written T.Text.bytes field) (with_spans spans.old) (with_spans spans.new) (Ok tt) }
+    ensures done { OnSpanHeld T.bytes id number (field_written T.bytes field) (with_spans spans.old) (with_spans spans.new) (Ok tt) }
 {
     write_field(&mut spans[number], field);
 }

@@ -20,7 +20,7 @@ pub fn add_meta<T: Text>(
 ) -> Result<()>
     requires within { number < length spans.old }
     requires row { number * 99 + 99 ≤ length span_meta.old }
-    ensures done { OnSpanHeld T.Text.bytes id number (meta (T.Text.bytes key) (T.Text.bytes value)) (λ m. with_span_meta span_meta.old (with_spans spans.old m)) (λ m. with_span_meta span_meta.new (with_spans spans.new m)) result }
+    ensures done { OnSpanHeld T.bytes id number (meta (T.bytes key) (T.bytes value)) (λ m. with_span_meta span_meta.old (with_spans spans.old m)) (λ m. with_span_meta span_meta.new (with_spans spans.new m)) result }
 {
     let head = &mut spans[number].meta;
     if insert_below(span_meta, 99, number, 64, head, key, value) {
@@ -41,7 +41,7 @@ pub fn add_metric<T: Text>(
 ) -> Result<()>
     requires within { number < length spans.old }
     requires row { number * 54 + 54 ≤ length span_metrics.old }
-    ensures done { OnSpanHeld T.Text.bytes id number (metric (T.Text.bytes key) bits) (λ m. with_span_metrics span_metrics.old (with_spans spans.old m)) (λ m. with_span_metrics span_metrics.new (with_spans spans.new m)) result }
+    ensures done { OnSpanHeld T.bytes id number (metric (T.bytes key) bits) (λ m. with_span_metrics span_metrics.old (with_spans spans.old m)) (λ m. with_span_metrics span_metrics.new (with_spans spans.new m)) result }
 {
     let head = &mut spans[number].metrics;
     if insert_below(span_metrics, 54, number, 32, head, key, bits) {

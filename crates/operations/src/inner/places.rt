@@ -1,5 +1,5 @@
 // Records for an id: its own, or one that is in no use.
-ghost use Rattle.std.specs.Prelude.{◌≡◌, ℕ, ◌<◌, Bool, length, Decides, MatchOption};
+ghost use Rattle.std.specs.Prelude.{◌≡◌, ℕ, ◌<◌, Bool, length, MatchOption, ◌↔◌, IsTrue};
 ghost use Rattle.tables.specs.Store.{free};
 ghost use Rattle.operations.specs.Done.{Unused, gone, HeldWithin};
 ghost use Rattle.operations.specs.Made.{NoneUnused, RecordFor, NoRecordFor, SeatFor, NoSeat, CanGrow};
@@ -37,7 +37,7 @@ impl<T: Text> Place for Segment<T> {
 }
 
 fn unused_at<R: Place>(records: &[R], number: usize) -> bool
-    ensures { Decides result (Unused R.Place.unused records.now number) }
+    ensures { IsTrue result ↔ (Unused R.unused records.now number) }
 {
     if number >= records.len() {
         return false;
@@ -47,7 +47,7 @@ fn unused_at<R: Place>(records: &[R], number: usize) -> bool
 
 // A record in no use: the hinted one, if it is, else the first.
 fn unused<R: Place>(records: &[R], hint: usize) -> Option<usize>
-    ensures { MatchOption result (NoneUnused R.Place.unused records.now) (Unused R.Place.unused records.now) }
+    ensures { MatchOption result (NoneUnused R.unused records.now) (Unused R.unused records.now) }
 {
     if unused_at(records, hint) {
         return Some(hint);
@@ -67,7 +67,7 @@ pub fn record_for<R: Place, I: Index>(
     id: u64,
     hint: usize,
 ) -> Option<usize>
-    ensures { MatchOption result (NoRecordFor R.Place.unused (I.Index.held index.now) records.now id) (RecordFor R.Place.unused (I.Index.held index.now) records.now id) }
+    ensures { MatchOption result (NoRecordFor R.unused (I.content index.now).held records.now id) (RecordFor R.unused (I.content index.now).held records.now id) }
 {
     match index.find(id) {
         Some(number) => Some(number),
@@ -77,7 +77,7 @@ pub fn record_for<R: Place, I: Index>(
 
 fn can_grow<T: Text>(segments: &[Segment<T>], seat: usize) -> bool
     requires { seat < length segments.now }
-    ensures { Decides result (CanGrow segments.now seat) }
+    ensures { IsTrue result ↔ (CanGrow segments.now seat) }
 {
     segments[seat].count < u32::MAX
 }
@@ -89,8 +89,8 @@ pub fn seat_for<T: Text, G: Index>(
     by_segment: &G,
     id: u64,
 ) -> Option<usize>
-    requires { HeldWithin (G.Index.held by_segment.now) (length segments.now) }
-    ensures { MatchOption result (NoSeat (G.Index.held by_segment.now) segments.now id) (SeatFor (G.Index.held by_segment.now) segments.now id) }
+    requires { HeldWithin (G.content by_segment.now).held (length segments.now) }
+    ensures { MatchOption result (NoSeat (G.content by_segment.now).held segments.now id) (SeatFor (G.content by_segment.now).held segments.now id) }
 {
     let seat = record_for(segments, by_segment, id, by_segment.count())?;
     if can_grow(segments, seat) {

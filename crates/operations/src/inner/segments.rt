@@ -19,9 +19,9 @@ pub fn add_segment_meta<T: Text, G: Index>(
     key: T,
     value: T,
 ) -> Result<()>
-    requires within { HeldWithin (G.Index.held by_segment.now) (length segments.old) }
+    requires within { HeldWithin (G.content by_segment.now).held (length segments.old) }
     requires rows { length segment_meta.old ≡ length segments.old * 32 }
-    ensures done { OnSegmentIfStanding T.Text.bytes segment (meta (T.Text.bytes key) (T.Text.bytes value)) (λ m. with_seats (G.Index.held by_segment.now) (with_segment_meta segment_meta.old (with_segments segments.old m))) (λ m. with_seats (G.Index.held by_segment.now) (with_segment_meta segment_meta.new (with_segments segments.new m))) result }
+    ensures done { OnSegmentIfStanding T.bytes segment (meta (T.bytes key) (T.bytes value)) (λ m. with_seats (G.content by_segment.now).held (with_segment_meta segment_meta.old (with_segments segments.old m))) (λ m. with_seats (G.content by_segment.now).held (with_segment_meta segment_meta.new (with_segments segments.new m))) result }
 {
     match by_segment.find(segment) {
         Some(seat) => meta_at(segments, segment_meta, segment, seat, key, value),
@@ -39,7 +39,7 @@ fn meta_at<T: Text>(
 ) -> Result<()>
     requires within { seat < length segments.old }
     requires row { seat * 32 + 32 ≤ length segment_meta.old }
-    ensures done { OnSeat T.Text.bytes segment seat (meta (T.Text.bytes key) (T.Text.bytes value)) (λ m. with_segment_meta segment_meta.old (with_segments segments.old m)) (λ m. with_segment_meta segment_meta.new (with_segments segments.new m)) result }
+    ensures done { OnSeat T.bytes segment seat (meta (T.bytes key) (T.bytes value)) (λ m. with_segment_meta segment_meta.old (with_segments segments.old m)) (λ m. with_segment_meta segment_meta.new (with_segments segments.new m)) result }
 {
     let head = &mut segments[seat].meta;
     if insert_below(segment_meta, 32, seat, 32, head, key, value) {
@@ -58,9 +58,9 @@ pub fn add_segment_metric<T: Text, G: Index>(
     key: T,
     bits: u64,
 ) -> Result<()>
-    requires within { HeldWithin (G.Index.held by_segment.now) (length segments.old) }
+    requires within { HeldWithin (G.content by_segment.now).held (length segments.old) }
     requires rows { length segment_metrics.old ≡ length segments.old * 16 }
-    ensures done { OnSegmentIfStanding T.Text.bytes segment (metric (T.Text.bytes key) bits) (λ m. with_seats (G.Index.held by_segment.now) (with_segment_metrics segment_metrics.old (with_segments segments.old m))) (λ m. with_seats (G.Index.held by_segment.now) (with_segment_metrics segment_metrics.new (with_segments segments.new m))) result }
+    ensures done { OnSegmentIfStanding T.bytes segment (metric (T.bytes key) bits) (λ m. with_seats (G.content by_segment.now).held (with_segment_metrics segment_metrics.old (with_segments segments.old m))) (λ m. with_seats (G.content by_segment.now).held (with_segment_metrics segment_metrics.new (with_segments segments.new m))) result }
 {
     match by_segment.find(segment) {
         Some(seat) => metric_at(segments, segment_metrics, segment, seat, key, bits),
@@ -78,7 +78,7 @@ fn metric_at<T: Text>(
 ) -> Result<()>
     requires within { seat < length segments.old }
     requires row { seat * 16 + 16 ≤ length segment_metrics.old }
-    ensures done { OnSeat T.Text.bytes segment seat (metric (T.Text.bytes key) bits) (λ m. with_segment_metrics segment_metrics.old (with_segments segments.old m)) (λ m. with_segment_metrics segment_metrics.new (with_segments segments.new m)) result }
+    ensures done { OnSeat T.bytes segment seat (metric (T.bytes key) bits) (λ m. with_segment_metrics segment_metrics.old (with_segments segments.old m)) (λ m. with_segment_metrics segment_metrics.new (with_segments segments.new m)) result }
 {
     let head = &mut segments[seat].metrics;
     if insert_below(segment_metrics, 16, seat, 16, head, key, bits) {
@@ -95,8 +95,8 @@ pub fn set_origin<T: Text, G: Index>(
     segment: u64,
     value: T,
 )
-    requires within { HeldWithin (G.Index.held by_segment.now) (length segments.old) }
-    ensures done { OnSegmentIfStanding T.Text.bytes segment (origin ≔ text (T.Text.bytes value)) (λ m. with_seats (G.Index.held by_segment.now) (with_segments segments.old m)) (λ m. with_seats (G.Index.held by_segment.now) (with_segments segments.new m)) (Ok tt) }
+    requires within { HeldWithin (G.content by_segment.now).held (length segments.old) }
+    ensures done { OnSegmentIfStanding T.bytes segment (origin ≔ text (T.bytes value)) (λ m. with_seats (G.content by_segment.now).held (with_segments segments.old m)) (λ m. with_seats (G.content by_segment.now).held (with_segments segments.new m)) (Ok tt) }
 {
     if let Some(seat) = by_segment.find(segment) {
         origin_at(segments, segment, seat, value);
@@ -105,7 +105,7 @@ pub fn set_origin<T: Text, G: Index>(
 
 fn origin_at<T: Text>(segments: &mut [Segment<T>], segment: u64, seat: usize, value: T)
     requires within { seat < length segments.old }
-    ensures done { OnSeat T.Text.bytes segment seat (origin ≔ text (T.Text.bytes value)) (with_segments segments.old) (with_segments segments.new) (Ok tt) }
+    ensures done { OnSeat T.bytes segment seat (origin ≔ text (T.bytes value)) (with_segments segments.old) (with_segments segments.new) (Ok tt) }
 {
     segments[seat].origin = Some(value);
 }

@@ -10,9 +10,7 @@ use index::Index;
 use index::entry::{Entry, Full};
 
 impl Index for SmallSegmentMap {
-    ghost held = { stood };
-
-    ghost room = { λ _. 256 };
+    ghost content = { λ s. record { held = stood s; room = 256 } };
 
     ghost once = { λ s. s.once };
 

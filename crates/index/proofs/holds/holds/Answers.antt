@@ -11,7 +11,7 @@ loop-i-init g c = (λ i k lt e. absurd (omega arith), sym (many-none (placed c.a
 
 pub loop-i-preserved : goal.loop-i-preserved
 loop-i-preserved g c =
-    let es = g.I.Index.held c.args.index.now in
+    let es = (g.I.Index.content c.args.index.now).held in
     let id-of = placed c.args.records.now in
     let i = c.loop-i.i in
     let v = c.loop-i.invariant in
@@ -31,7 +31,7 @@ loop-i-preserved g c =
 
 pub returns : goal.returns
 returns g c =
-    let es = g.I.Index.held c.args.index.now in
+    let es = (g.I.Index.content c.args.index.now).held in
     let rs = c.args.records.now in
     let v = c.loop-i.invariant in
     found_all es (placed rs) c.loop-i.i (g.met.I.Index.once c.args.index.now) (λ i ge. get_or_past rs i None (omega (arith, ge))) v.0

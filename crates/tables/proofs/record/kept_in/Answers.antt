@@ -36,7 +36,7 @@ pub loop-i-preserved : goal.loop-i-preserved
 loop-i-preserved g c =
     let key = g.R.Record.key_of in
     let xs = c.args.records.now in
-    let es = g.I.Index.held c.args.index.now in
+    let es = (g.I.Index.content c.args.index.now).held in
     let i = c.loop-i.i in
     let x = c.index-records-i.result in
     let there = slice_get_read xs _ i x refl c.loop-i-test.true c.index-records-i.is in
@@ -69,7 +69,7 @@ pub returns : goal.returns
 returns g c =
     let key = g.R.Record.key_of in
     let xs = c.args.records.now in
-    let es = g.I.Index.held c.args.index.now in
+    let es = (g.I.Index.content c.args.index.now).held in
     let v = c.loop-i.invariant in
     let held =
     found_all es (key_at key xs) c.loop-i.i (g.met.I.Index.once c.args.index.now)

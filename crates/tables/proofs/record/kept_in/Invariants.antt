@@ -7,6 +7,6 @@ use Rattle.tables.proofs.record.kept_in.Given as goal
 abbrev pub invariant-loop-i : goal.invariant-loop-i
 invariant-loop-i g l =
     ((r : ℕ) (x : g.row.R.Denot) → r < l.i → slice_get l.records r ≡ Some x → g.R.Record.limits x)
-    × Found (g.I.Index.held l.index) (key_at g.R.Record.key_of l.records) l.i
+    × Found (g.I.Index.content l.index).held (key_at g.R.Record.key_of l.records) l.i
     × (l.used ≡ many (key_at g.R.Record.key_of l.records) l.i)
     × (l.used ≤ l.i)

@@ -17,7 +17,7 @@ returns-in_err-creation g c =
       played = λ m o.
           as_create g.T.Text.bytes (held c.args.buffer.now) (fields_of c.args.extra) c.args.id (λ q. q ≡ c.args.id) _ _ c.args.index.now c.read_creation.new.index _
           (unread g.T.Text.bytes (held c.args.buffer.now) _ c.args.index.now (λ q. q ≡ c.args.id) (read_create (fields_of c.args.extra)) (λ x. make c.args.id x.0 x.1) c.read_creation.new.index c.in_err-creation.field-0.0 o
-          (c.in_err-creation.ensures.reads (create_parts c.args.spans.now c.args.span_meta.now c.args.segments.now c.args.defaults.now c.args.settings.now (g.S.Index.held c.args.by_id.now) (g.S.Index.room c.args.by_id.now) (g.G.Index.held c.args.by_segment.now) (g.G.Index.room c.args.by_segment.now) m)));
+          (c.in_err-creation.ensures.reads (create_parts c.args.spans.now c.args.span_meta.now c.args.segments.now c.args.defaults.now c.args.settings.now (g.S.Index.content c.args.by_id.now).held (g.S.Index.content c.args.by_id.now).room (g.G.Index.content c.args.by_segment.now).held (g.G.Index.content c.args.by_segment.now).room m)));
     })
 
 pub returns : goal.returns
@@ -25,6 +25,6 @@ returns g c = record {
   played = λ m o.
       as_create g.T.Text.bytes (held c.args.buffer.now) (fields_of c.args.extra) c.args.id (λ q. q ≡ c.args.id) _ _ c.args.index.now c.read_creation.new.index _
       (read_done g.T.Text.bytes (held c.args.buffer.now) _ c.args.index.now (λ q. q ≡ c.args.id) (read_create (fields_of c.args.extra)) (λ x. make c.args.id x.0 x.1) _ c.read_creation.new.index _ _
-      (c.in_ok-creation.ensures.reads (create_parts c.args.spans.now c.args.span_meta.now c.args.segments.now c.args.defaults.now c.args.settings.now (g.S.Index.held c.args.by_id.now) (g.S.Index.room c.args.by_id.now) (g.G.Index.held c.args.by_segment.now) (g.G.Index.room c.args.by_segment.now) m))
+      (c.in_ok-creation.ensures.reads (create_parts c.args.spans.now c.args.span_meta.now c.args.segments.now c.args.defaults.now c.args.settings.now (g.S.Index.content c.args.by_id.now).held (g.S.Index.content c.args.by_id.now).room (g.G.Index.content c.args.by_segment.now).held (g.G.Index.content c.args.by_segment.now).room m))
       (c.create.ensures.done (with_strings c.args.strings.now m) _ o (gives g.T.Text.bytes _ c.args.extra c.in_ok-creation.ensures.blank)));
 }

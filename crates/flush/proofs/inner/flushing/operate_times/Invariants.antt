@@ -10,7 +10,7 @@ use Rattle.flush.proofs.inner.flushing.operate_times.Given as goal
 
 abbrev pub invariant-loop-i : goal.invariant-loop-i
 invariant-loop-i g l =
-    Cached (g.S.Index.held l.by_id) l.last
+    Cached (g.S.Index.content l.by_id).held l.last
     × Played g.T.Text.bytes (times l.i operation) (Created (held l.buffer)) (held l.buffer)
-    (store l.initial.spans l.initial.span_meta l.initial.span_metrics l.initial.segments l.initial.segment_meta l.initial.segment_metrics l.strings l.defaults l.initial.settings (g.S.Index.held l.initial.by_id) (g.S.Index.room l.initial.by_id) (g.G.Index.held l.initial.by_segment) (g.G.Index.room l.initial.by_segment))
-    (store l.spans l.span_meta l.span_metrics l.segments l.segment_meta l.segment_metrics l.strings l.defaults l.settings (g.S.Index.held l.by_id) (g.S.Index.room l.by_id) (g.G.Index.held l.by_segment) (g.G.Index.room l.by_segment)) l.initial.index l.index (Ok tt)
+    (store l.initial.spans l.initial.span_meta l.initial.span_metrics l.initial.segments l.initial.segment_meta l.initial.segment_metrics l.strings l.defaults l.initial.settings (g.S.Index.content l.initial.by_id).held (g.S.Index.content l.initial.by_id).room (g.G.Index.content l.initial.by_segment).held (g.G.Index.content l.initial.by_segment).room)
+    (store l.spans l.span_meta l.span_metrics l.segments l.segment_meta l.segment_metrics l.strings l.defaults l.settings (g.S.Index.content l.by_id).held (g.S.Index.content l.by_id).room (g.G.Index.content l.by_segment).held (g.G.Index.content l.by_segment).room) l.initial.index l.index (Ok tt)

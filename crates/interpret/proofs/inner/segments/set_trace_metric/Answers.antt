@@ -12,13 +12,13 @@ returns-in_err-key g c =
     rw (p.1, p.2) (record {
       played = λ m o.
           note-unread g.T.Text.bytes (held c.args.buffer.now) _ c.args.index.now S_F c.args.segment c.read_metric.new.index c.in_err-key.field-0.0 o
-          (c.in_err-key.ensures.reads (with_seats (g.G.Index.held c.args.by_segment.now) (with_segment_metrics c.args.segment_metrics.now (with_segments c.args.segments.now m))));
+          (c.in_err-key.ensures.reads (with_seats (g.G.Index.content c.args.by_segment.now).held (with_segment_metrics c.args.segment_metrics.now (with_segments c.args.segments.now m))));
     })
 
 pub returns : goal.returns
 returns g c = record {
   played = λ m o.
       note_done g.T.Text.bytes (held c.args.buffer.now) _ c.args.index.now S_F c.args.segment _ c.read_metric.new.index _ _
-      (c.in_ok-key.ensures.reads (with_seats (g.G.Index.held c.args.by_segment.now) (with_segment_metrics c.args.segment_metrics.now (with_segments c.args.segments.now m))))
+      (c.in_ok-key.ensures.reads (with_seats (g.G.Index.content c.args.by_segment.now).held (with_segment_metrics c.args.segment_metrics.now (with_segments c.args.segments.now m))))
       (c.add_segment_metric.ensures.done (with_strings c.args.strings.now m) o);
 }

@@ -32,8 +32,8 @@ returns-else-count_one g c =
       enters = record {
         segments = λ y e. ap (set ys c.args.seat) (c.count_one.ensures.after ∙ ap (counted_in c.args.id) (same_some (slice_get ys c.args.seat) _ y there e));
         entry =
-            put_same (g.G.Index.held c.args.by_segment.now) c.args.id c.args.seat
-            (own_seat (g.G.Index.held c.args.by_segment.now) ys c.args.id c.args.seat c.requires.own _ there (sym c.if-count_one.ensures.value));
+            put_same (g.G.Index.content c.args.by_segment.now).held c.args.id c.args.seat
+            (own_seat (g.G.Index.content c.args.by_segment.now).held ys c.args.id c.args.seat c.requires.own _ there (sym c.if-count_one.ensures.value));
       };
       capacity = refl;
     }

@@ -11,7 +11,7 @@ metric_at-requires g c =
 
 pub returns-in-Some : goal.returns-in-Some
 returns-in-Some g c = record {
-  done = λ m o. c.metric_at.ensures.done (with_seats (g.G.Index.held c.args.by_segment.now) m) o (sym c.in-Some.ensures);
+  done = λ m o. c.metric_at.ensures.done (with_seats (g.G.Index.content c.args.by_segment.now).held m) o (sym c.in-Some.ensures);
 }
 
 pub returns-in-None : goal.returns-in-None

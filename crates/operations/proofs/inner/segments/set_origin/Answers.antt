@@ -8,7 +8,7 @@ origin_at-requires g c = record { within = c.requires.within c.args.segment c.in
 
 pub returns-in-Some : goal.returns-in-Some
 returns-in-Some g c = record {
-  done = λ m o. c.origin_at.ensures.done (with_seats (g.G.Index.held c.args.by_segment.now) m) o (sym c.in-Some.ensures);
+  done = λ m o. c.origin_at.ensures.done (with_seats (g.G.Index.content c.args.by_segment.now).held m) o (sym c.in-Some.ensures);
 }
 
 pub returns-in_default : goal.returns-in_default
