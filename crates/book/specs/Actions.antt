@@ -1,6 +1,6 @@
 -- Actions, of which a flush is made: from a book and the bytes that are left to a value, a book and the bytes then left, or to a stop.
 -- No action knows where it stands in the buffer: an offset is the buffer's length less what was left.
-use Rattle.std.specs.Prelude.{ℕ, zero, suc, ◌-◌, Bool, true, false, cond, List, length, take, drop, Some, None, Option, nat_le}
+use Rattle.std.specs.Prelude.{ℕ, zero, suc, ◌-◌, Bool, true, false, if◌then◌else◌, List, length, take, drop, Some, None, Option, nat_le}
 use Rattle.layout.specs.Numbers.{le}
 use Rattle.book.specs.Book.{Book}
 use Rattle.book.specs.Refusals.{Cause, Refusal, because, read_out_of_bounds, Answer, accepted, refused}
@@ -59,7 +59,7 @@ times (suc n) m = m >>= (λ _. times n m)
 
 -- the little-endian number in the next n bytes
 unfoldable pub read : ℕ → Act ℕ
-read n b rest = cond (nat_le n (length rest)) (went (le (take n rest)) b (drop n rest)) (stopped (short (length rest) n) b)
+read n b rest = if nat_le n (length rest) then went (le (take n rest)) b (drop n rest) else stopped (short (length rest) n) b
 
 -- ---- in a buffer of so many bytes
 

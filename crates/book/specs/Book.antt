@@ -1,6 +1,6 @@
 -- The plain book: what can be written to spans and segments, what they then show, and what the recorder holds by id and by number.
 -- A text is its bytes. Every list of writings has the newest first, every row of pairs the oldest first.
-use Rattle.std.specs.Prelude.{ℕ, ◌+◌, ◌-◌, Bool, true, cond, ◌&&◌, List, [], ◌∷◌, ◌++◌, length, ℤ, pos, Some, None, Option, ◌==◌, nat_le, nat_lt, to_bits, Float}
+use Rattle.std.specs.Prelude.{ℕ, ◌+◌, ◌-◌, Bool, true, if◌then◌else◌, ◌&&◌, List, [], ◌∷◌, ◌++◌, length, ℤ, pos, Some, None, Option, ◌==◌, nat_le, nat_lt, to_bits, Float}
 use Rattle.std.specs.Float.{binary64}
 use Rattle.std.specs.Str.{bytes_eq}
 use Rattle.book.specs.Limits.{most_spans, most_segments, most_strings}
@@ -60,7 +60,7 @@ same_field f g = field_number f == field_number g
 
 -- a field's value v after one more writing
 abbrev pub rewritten : Field → Writing → Value → Value
-rewritten f (g ≔ new) v = cond (same_field f g) new v
+rewritten f (g ≔ new) v = if same_field f g then new else v
 rewritten f (meta k t) v = v
 rewritten f (metric k n) v = v
 
@@ -118,7 +118,7 @@ or_else None o = o
 -- the value of the last pair with a key
 abbrev pub last_value : {V : Type 0} → Text → List (Text × V) → Option V
 last_value k [] = None
-last_value k (p ∷ ps) = or_else (last_value k ps) (cond (bytes_eq p.0 k) (Some p.1) None)
+last_value k (p ∷ ps) = or_else (last_value k ps) (if bytes_eq p.0 k then Some p.1 else None)
 
 -- is there a place in its row for one more writing, of at most t text pairs and n number pairs?
 abbrev pub has_place : ℕ → ℕ → List Writing → Writing → Bool

@@ -1,5 +1,5 @@
 -- The calls and questions on the plain book, and a run of them.
-use Rattle.std.specs.Prelude.{ℕ, Bool, cond, ◌&&◌, List, [], ◌∷◌, length, Some, None, Option, nat_le, nat_lt, Float}
+use Rattle.std.specs.Prelude.{ℕ, Bool, if◌then◌else◌, ◌&&◌, List, [], ◌∷◌, length, Some, None, Option, nat_le, nat_lt, Float}
 use Rattle.book.specs.Limits.{most_defaults}
 use Rattle.book.specs.Maps.{find, remove, put}
 use Rattle.book.specs.Book.{Text, rule, limit, agent, Value, nothing, float, ◌≔◌, bits_of, Span, Segment, note, Setup, Book, lengths_allowed, numbers_of, with_strings, with_defaults, with_segments}
@@ -23,7 +23,7 @@ pub data Call : Type 0 where
 
 -- set-up's answer; `enough` says whether the indexes' capacities suffice
 abbrev pub set_up_answer : Setup → (enough : Bool) → Answer
-set_up_answer u enough = cond (lengths_allowed u && enough) accepted (refused (because out_of_order))
+set_up_answer u enough = if lengths_allowed u && enough then accepted else refused (because out_of_order)
 
 -- a question on one span
 abbrev pub span_or : Cause → Option Span → Answer
@@ -43,9 +43,9 @@ decided b id r l a (Some g) =
 
 -- one call: the book afterwards and the answer
 abbrev pub step : Call → Book → Book × Answer
-step (string_insert k t) b = cond (nat_lt k b.setup.strings) (with_strings (put k t b.strings) b, accepted) (b, refused (because key_beyond))
+step (string_insert k t) b = if nat_lt k b.setup.strings then (with_strings (put k t b.strings) b, accepted) else (b, refused (because key_beyond))
 step (string_evict k) b = (with_strings (remove k b.strings) b, accepted)
-step (default_meta ps) b = cond (nat_le (length ps) most_defaults) (with_defaults ps b, accepted) (b, refused (because too_many_defaults))
+step (default_meta ps) b = if nat_le (length ps) most_defaults then (with_defaults ps b, accepted) else (b, refused (because too_many_defaults))
 step (decisions id r l a) b = decided b id r l a (find id b.segments)
 step (change_buffer bytes) b = flush b bytes
 step (flush_chunk ids root room ns) b = chunk b ids root room ns

@@ -1,5 +1,5 @@
 -- A chunk of finished spans is handed out: its tags, the spans moved under their record numbers, the charge to its segment; and returns.
-use Rattle.std.specs.Prelude.{ℕ, suc, ◌+◌, Bool, cond, List, [], ◌∷◌, ◌++◌, map, length, pos, Some, None, codes, Option, nat_le}
+use Rattle.std.specs.Prelude.{ℕ, suc, ◌+◌, Bool, if◌then◌else◌, List, [], ◌∷◌, ◌++◌, map, length, pos, Some, None, codes, Option, nat_le}
 use Rattle.std.specs.Float.{binary64}
 use Rattle.std.specs.Float.Ieee.{of_int}
 use Rattle.std.specs.Str.{bytes_eq}
@@ -60,12 +60,12 @@ segment_tags (Some g) = map (λ p. meta p.0 p.1) (texts g.since) ++ map (λ p. m
 -- 3. of every span, by its kind
 abbrev pub measured : Option Text → List Writing
 measured None = []
-measured (Some kind) = cond (bytes_eq kind (codes "internal")) [] (metric (codes "_dd.measured") (whole 1) ∷ [])
+measured (Some kind) = if bytes_eq kind (codes "internal") then [] else metric (codes "_dd.measured") (whole 1) ∷ []
 
 -- 4. of every span: the tracer's service, if the span's is another
 abbrev pub base_service : (tracer : Text) → Option Text → List Writing
 base_service tracer None = []
-base_service tracer (Some own) = cond (bytes_eq own tracer) [] (meta (codes "_dd.base_service") tracer ∷ [])
+base_service tracer (Some own) = if bytes_eq own tracer then [] else meta (codes "_dd.base_service") tracer ∷ []
 
 -- and after it the language, the process id, and the segment's origin
 abbrev pub process_tags : Setup → Option Segment → (own : Option Text) → List Writing
@@ -82,7 +82,7 @@ write_all (w ∷ ws) s = write_all ws (write w s)
 
 -- the tags of the first span alone
 abbrev pub tag_first : Bool → Option Segment → Span → Span
-tag_first root g s = write_all (cond root (root_tags g) [] ++ segment_tags g) s
+tag_first root g s = write_all ((if root then root_tags g else []) ++ segment_tags g) s
 
 -- the tags of every span
 abbrev pub tag_every : Setup → Option Segment → Span → Span
@@ -124,7 +124,7 @@ charged n g = record { created = g.created; charged = g.charged + n; since = g.s
 -- a segment with no more than n to its count goes, any other stays with n more charged
 abbrev pub charge_one : ℕ → ℕ → Option Segment → Map Segment → Map Segment
 charge_one n id None m = m
-charge_one n id (Some g) m = cond (nat_le (count g) n) (remove id m) (put id (charged n g) m)
+charge_one n id (Some g) m = if nat_le (count g) n then remove id m else put id (charged n g) m
 
 -- the charge of n spans to the segment with this id; one that is gone is not charged
 abbrev pub charge : ℕ → ℕ → Map Segment → Map Segment
@@ -157,7 +157,7 @@ chunk_of b ids root ns id (Some s) = chunk_taken b s.segment (find s.segment b.s
 abbrev pub chunk : Book → (ids : List ℕ) → Bool → (room : ℕ) → (numbers : List ℕ) → Book × Answer
 chunk b [] root room ns = (b, accepted)
 chunk b (id ∷ ids) root room ns =
-    cond (nat_le (suc (length ids)) room) (chunk_of b (id ∷ ids) root ns id (find id b.live)) (b, refused (because list_short))
+    if nat_le (suc (length ids)) room then chunk_of b (id ∷ ids) root ns id (find id b.live) else (b, refused (because list_short))
 
 -- ---- returns
 

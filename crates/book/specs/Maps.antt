@@ -1,5 +1,5 @@
 -- What is kept by number: each number at most once, with what stands under it.
-use Rattle.std.specs.Prelude.{◌≡◌, ℕ, Bool, true, false, cond, List, [], ◌∷◌, Some, None, Option, ◌==◌}
+use Rattle.std.specs.Prelude.{◌≡◌, ℕ, Bool, true, false, if◌then◌else◌, List, [], ◌∷◌, Some, None, Option, ◌==◌}
 
 -- numbers, each with a value
 abbrev pub Map : Type 0 → Type 0
@@ -9,12 +9,12 @@ module _ {V : Type 0} where
   -- what stands under a number
   abbrev pub find : ℕ → Map V → Option V
   find k [] = None
-  find k (e ∷ m) = cond (k == e.0) (Some e.1) (find k m)
+  find k (e ∷ m) = if k == e.0 then Some e.1 else find k m
 
   -- without what stands under a number
   abbrev pub remove : ℕ → Map V → Map V
   remove k [] = []
-  remove k (e ∷ m) = cond (k == e.0) (remove k m) (e ∷ remove k m)
+  remove k (e ∷ m) = if k == e.0 then remove k m else e ∷ remove k m
 
   -- with v under a number, in place of what stood there
   abbrev pub put : ℕ → V → Map V → Map V

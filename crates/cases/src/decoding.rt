@@ -1,5 +1,5 @@
 // Change buffers at their limits: each opcode's shortest operation, and a byte less.
-use decode::listing::{Ending, Listing};
+use decode::listing::Listing;
 use hex_text::read::read_hex;
 use std::alloc::{AllocError, Global};
 use std::process::Abort;
@@ -11,9 +11,7 @@ const OPERANDS: [usize; 17] = [32, 8, 12, 4, 4, 4, 8, 8, 4, 4, 8, 12, 4, 44, 56,
 // A buffer with one operation, whose operands are zeros.
 fn one(heap: Global, opcode: u8, operands: usize) -> Result<Vec<u8>, AllocError> {
     let mut bytes = vec![in heap; 1, 0, 0, 0, 0, 0, 0, 0, opcode, 0, 9, 0, 0, 0, 0, 0, 0, 0]?;
-    for _ in 0..operands {
-        bytes.push(0)?;
-    }
+    bytes.resize(18 + operands, 0)?;
     Ok(bytes)
 }
 
@@ -23,8 +21,8 @@ fn ending(heap: Global, bytes: &[u8]) -> Result<String, Fail> {
     let read = listing.operations.len();
     let count = listing.count;
     match listing.ending {
-        Ending::Accepted(rest) => Ok(format!(in heap; "{read} of {count}, {rest} left")?),
-        Ending::Refused(fault) => Ok(format!(in heap; "{read} of {count}, {fault}")?),
+        Ok(rest) => Ok(format!(in heap; "{read} of {count}, {rest} left")?),
+        Err(fault) => Ok(format!(in heap; "{read} of {count}, {fault}")?),
     }
 }
 
@@ -36,22 +34,19 @@ fn ends(rt: &impl Abort, heap: Global, text: &[u8], words: &str) -> Result<(), F
 
 #[test]
 fn shortest_of_each(rt: HostRuntime) -> Result<(), Fail> {
-    let mut opcode = 0;
-    for operands in OPERANDS {
+    for (opcode, operands) in (0..17).zip(OPERANDS) {
         let bytes = one(rt.alloc(), opcode, operands)?;
         assert_eq!(rt;
             ending(rt.alloc(), bytes.as_slice())?.as_str(),
             "1 of 1, 0 left"
         );
-        opcode = opcode.saturating_add(1);
     }
     Ok(())
 }
 
 #[test]
 fn one_byte_less(rt: HostRuntime) -> Result<(), Fail> {
-    let mut opcode = 0;
-    for operands in OPERANDS {
+    for (opcode, operands) in (0..17).zip(OPERANDS) {
         let bytes = one(rt.alloc(), opcode, operands - 1)?;
         let words = ending(rt.alloc(), bytes.as_slice())?;
         assert!(rt;
@@ -59,7 +54,6 @@ fn one_byte_less(rt: HostRuntime) -> Result<(), Fail> {
                 .as_str()
                 .starts_with("0 of 1, 8 ReadOutOfBounds: offset ")
         );
-        opcode = opcode.saturating_add(1);
     }
     Ok(())
 }

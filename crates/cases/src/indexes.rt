@@ -20,14 +20,8 @@ pub enum Step {
 
 fn answers<I: Index>(index: &mut I, step: Step) -> bool {
     match step {
-        Step::Put(id, number, former) => match index.put(id, number) {
-            Ok(answer) => answer == former,
-            Err(_) => false,
-        },
-        Step::Refused(id) => match index.put(id, 0) {
-            Ok(_) => false,
-            Err(full) => full.number() == 14,
-        },
+        Step::Put(id, number, former) => index.put(id, number) == Ok(former),
+        Step::Refused(id) => index.put(id, 0).is_err_and(|full| full.number() == 14),
         Step::Find(id, number) => index.find(id) == number,
         Step::Remove(id, former) => index.remove(id) == former,
         Step::Clear => {
@@ -41,12 +35,10 @@ fn answers<I: Index>(index: &mut I, step: Step) -> bool {
 
 // How many steps answer as they must, up to the first that does not.
 fn run<I: Index>(index: &mut I, steps: &[Step]) -> usize {
-    for (i, step) in steps.iter().enumerate() {
-        if !answers(index, *step) {
-            return i;
-        }
-    }
-    steps.len()
+    steps
+        .iter()
+        .position(|step| !answers(index, *step))
+        .unwrap_or(steps.len())
 }
 
 // The least and the greatest id, at any index with two places and more.
@@ -124,26 +116,17 @@ fn put_below<I: Index>(index: &mut I, n: usize) -> usize {
 
 // The number of the refusal, none where an index of that many places is made.
 fn refusal(heap: Global, places: usize) -> Option<u32> {
-    match HashedIndex::new(heap, places) {
-        Ok(_) => None,
-        Err(e) => Some(e.number()),
-    }
+    HashedIndex::new(heap, places).err().map(|e| e.number())
 }
 
 // The id in a place.
 fn id_at(index: &SmallSegmentMap, place: usize) -> Option<u64> {
-    match index.entry_at(place) {
-        Some(entry) => Some(entry.id),
-        None => None,
-    }
+    index.entry_at(place).map(|entry| entry.id)
 }
 
 // Runs the steps at a hashed index of that many places.
 fn run_hashed(heap: Global, places: usize, steps: &[Step]) -> usize {
-    match HashedIndex::new(heap, places) {
-        Ok(mut index) => run(&mut index, steps),
-        Err(_) => 0,
-    }
+    HashedIndex::new(heap, places).map_or(0, |mut index| run(&mut index, steps))
 }
 
 #[cfg(test)]

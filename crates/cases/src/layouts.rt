@@ -135,10 +135,7 @@ mod tests {
     }
 
     fn refused_opcode(number: u16) -> Option<ChangeBufferError> {
-        match OpCode::try_from(number) {
-            Ok(_) => None,
-            Err(e) => Some(e),
-        }
+        OpCode::try_from(number).err()
     }
 
     #[test]
@@ -156,10 +153,7 @@ mod tests {
     }
 
     fn refused_operation(bytes: &[u8], index: &mut usize) -> Option<ChangeBufferError> {
-        match BufferedOperation::from_buf(&ChangeBuffer::new(bytes), index) {
-            Ok(_) => None,
-            Err(e) => Some(e),
-        }
+        BufferedOperation::from_buf(&ChangeBuffer::new(bytes), index).err()
     }
 
     #[test]

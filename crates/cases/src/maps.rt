@@ -14,11 +14,7 @@ mod tests {
         let a = ShortText::from_bytes(b"a")?;
         let b = ShortText::from_bytes(b"b")?;
         let mut row = [(<ShortText as Text>::empty(), 0u64); 3];
-        let head = Head {
-            count: 0,
-            deduped: false,
-        };
-        let mut map = VecMap::new(&mut row, head);
+        let mut map = VecMap::new(&mut row, Head::default());
         assert!(rt; map.insert(a, 1).is_ok());
         assert!(rt; map.insert(b, 2).is_ok());
         assert!(rt; map.insert(a, 3).is_ok());

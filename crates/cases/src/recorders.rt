@@ -12,21 +12,14 @@ use texts::Text;
 use texts::listed::ListedText;
 use vec_map::head::Head;
 
-fn head(count: usize) -> Head {
-    Head {
-        count,
-        deduped: false,
-    }
-}
-
 fn span(mark: Mark, id: u64) -> Span<ListedText> {
     let none = <ListedText as Text>::empty();
     Span {
         mark,
         id,
         segment: 0,
-        meta: head(0),
-        metrics: head(0),
+        meta: Head::default(),
+        metrics: Head::default(),
         trace: TraceId { low: 0, high: 0 },
         parent: 0,
         start: 0,
@@ -43,8 +36,8 @@ fn segment(id: u64, count: u32) -> Segment<ListedText> {
     Segment {
         id,
         count,
-        meta: head(0),
-        metrics: head(0),
+        meta: Head::default(),
+        metrics: Head::default(),
         origin: None,
         rule: None,
         limit: None,
@@ -52,20 +45,32 @@ fn segment(id: u64, count: u32) -> Segment<ListedText> {
     }
 }
 
-// The answer of a string insert over tables of two span records and one segment, and whether the string table is as it was.
-fn tried<S: Index>(
-    spans: &mut [Span<ListedText>],
-    segments: &mut [Segment<ListedText>],
-    by_id: &mut S,
-    by_segment: &mut SmallSegmentMap,
-) -> (u32, bool) {
+// The records of two spans and one segment, and their indexes.
+#[derive(Drop)]
+struct Records<S> {
+    spans: [Span<ListedText>; 2],
+    segments: [Segment<ListedText>; 1],
+    by_id: S,
+    by_segment: SmallSegmentMap,
+}
+
+// The records with empty indexes.
+fn unindexed(
+    spans: [Span<ListedText>; 2],
+    segment: Segment<ListedText>,
+) -> Records<SmallSegmentMap> {
+    Records {
+        spans,
+        segments: [segment],
+        by_id: SmallSegmentMap::new(),
+        by_segment: SmallSegmentMap::new(),
+    }
+}
+
+// The answer of a string insert over these records, and whether the string table is as it was.
+fn tried<S: Index>(records: &mut Records<S>) -> (Result<(), ChangeBufferError>, bool) {
     let none = <ListedText as Text>::empty();
-    let mut span_meta = [(none, none); 198];
-    let mut span_metrics = [(none, 0u64); 108];
-    let mut segment_meta = [(none, none); 32];
-    let mut segment_metrics = [(none, 0u64); 16];
     let mut strings = [None; 4];
-    let mut defaults = [(none, none); 32];
     let mut settings = Settings {
         service: none,
         language: none,
@@ -73,28 +78,24 @@ fn tried<S: Index>(
         defaults: 0,
         next_free: 0,
     };
-    let tables = Tables {
-        spans,
-        span_meta: &mut span_meta,
-        span_metrics: &mut span_metrics,
-        segment_meta: &mut segment_meta,
-        segment_metrics: &mut segment_metrics,
+    let mut tables = Tables {
+        spans: &mut records.spans,
+        span_meta: &mut [(none, none); 198],
+        span_metrics: &mut [(none, 0u64); 108],
+        segment_meta: &mut [(none, none); 32],
+        segment_metrics: &mut [(none, 0u64); 16],
         strings: &mut strings,
-        defaults: &mut defaults,
+        defaults: &mut [(none, none); 32],
     };
-    let kind = <ListedText as Text>::from_static_str("kind");
-    let answer = match string_table_insert_one(
-        tables,
-        segments,
+    let answer = string_table_insert_one(
+        &mut tables,
+        &mut records.segments,
         &mut settings,
-        by_id,
-        by_segment,
+        &mut records.by_id,
+        &mut records.by_segment,
         3,
-        kind,
-    ) {
-        Ok(_) => 0,
-        Err(e) => e.number(),
-    };
+        <ListedText as Text>::from_static_str("kind"),
+    );
     (answer, strings[3].is_none())
 }
 
@@ -105,100 +106,82 @@ mod tests {
     use std::process::Abort;
     use std::test::Fail;
 
-    fn refused(rt: &impl Abort, answer: (u32, bool)) -> Result<(), Fail> {
-        assert_eq!(rt; answer.0, 1);
-        assert!(rt; answer.1);
-        Ok(())
+    fn refused<S: Index + Drop>(
+        rt: &impl Abort,
+        mut records: Records<S>,
+    ) -> Result<(), Fail> {
+        match tried(&mut records) {
+            (Ok(()), _) => Err(Fail::new("accepted")),
+            (Err(refusal), same) => {
+                assert_eq!(rt; refusal.number(), 1);
+                assert!(rt; same);
+                Ok(())
+            },
+        }
     }
 
     #[test]
     fn in_order(rt: HostRuntime) {
-        let mut spans = [span(Mark::Live, 5), span(Mark::HandedOut, 5)];
-        let mut segments = [segment(1, 1)];
-        let mut by_id = SmallSegmentMap::new();
-        let mut by_segment = SmallSegmentMap::new();
-        let _ = by_id.put(5, 0);
-        let _ = by_segment.put(1, 0);
-        let answer = tried(&mut spans, &mut segments, &mut by_id, &mut by_segment);
-        assert_eq!(rt; answer.0, 0);
-        assert!(rt; !answer.1);
+        let spans = [span(Mark::Live, 5), span(Mark::HandedOut, 5)];
+        let mut records = unindexed(spans, segment(1, 1));
+        let _ = records.by_id.put(5, 0);
+        let _ = records.by_segment.put(1, 0);
+        let (answer, same) = tried(&mut records);
+        assert!(rt; answer.is_ok());
+        assert!(rt; !same);
     }
 
     #[test]
     fn a_live_record_is_missing_in_the_index(rt: HostRuntime) -> Result<(), Fail> {
-        let mut spans = [span(Mark::Live, 5), span(Mark::Free, 0)];
-        let mut segments = [segment(1, 0)];
-        let mut by_id = SmallSegmentMap::new();
-        let mut by_segment = SmallSegmentMap::new();
-        refused(
-            &rt,
-            tried(&mut spans, &mut segments, &mut by_id, &mut by_segment),
-        )
+        let spans = [span(Mark::Live, 5), span(Mark::Free, 0)];
+        refused(&rt, unindexed(spans, segment(1, 0)))
     }
 
     #[test]
     fn the_index_names_a_free_record(rt: HostRuntime) -> Result<(), Fail> {
-        let mut spans = [span(Mark::Free, 5), span(Mark::Free, 0)];
-        let mut segments = [segment(1, 0)];
-        let mut by_id = SmallSegmentMap::new();
-        let mut by_segment = SmallSegmentMap::new();
-        let _ = by_id.put(5, 0);
-        refused(
-            &rt,
-            tried(&mut spans, &mut segments, &mut by_id, &mut by_segment),
-        )
+        let spans = [span(Mark::Free, 5), span(Mark::Free, 0)];
+        let mut records = unindexed(spans, segment(1, 0));
+        let _ = records.by_id.put(5, 0);
+        refused(&rt, records)
     }
 
     #[test]
     fn two_live_records_have_one_id(rt: HostRuntime) -> Result<(), Fail> {
-        let mut spans = [span(Mark::Live, 5), span(Mark::Live, 5)];
-        let mut segments = [segment(1, 0)];
-        let mut by_id = SmallSegmentMap::new();
-        let mut by_segment = SmallSegmentMap::new();
-        let _ = by_id.put(5, 0);
-        refused(
-            &rt,
-            tried(&mut spans, &mut segments, &mut by_id, &mut by_segment),
-        )
+        let spans = [span(Mark::Live, 5), span(Mark::Live, 5)];
+        let mut records = unindexed(spans, segment(1, 0));
+        let _ = records.by_id.put(5, 0);
+        refused(&rt, records)
     }
 
     #[test]
     fn a_standing_segment_counts_0(rt: HostRuntime) -> Result<(), Fail> {
-        let mut spans = [span(Mark::Free, 0), span(Mark::Free, 0)];
-        let mut segments = [segment(1, 0)];
-        let mut by_id = SmallSegmentMap::new();
-        let mut by_segment = SmallSegmentMap::new();
-        let _ = by_segment.put(1, 0);
-        refused(
-            &rt,
-            tried(&mut spans, &mut segments, &mut by_id, &mut by_segment),
-        )
+        let spans = [span(Mark::Free, 0), span(Mark::Free, 0)];
+        let mut records = unindexed(spans, segment(1, 0));
+        let _ = records.by_segment.put(1, 0);
+        refused(&rt, records)
     }
 
     #[test]
     fn a_row_counts_past_its_limit(rt: HostRuntime) -> Result<(), Fail> {
-        let mut spans = [span(Mark::Live, 5), span(Mark::Free, 0)];
-        spans[0].meta = head(65);
-        let mut segments = [segment(1, 0)];
-        let mut by_id = SmallSegmentMap::new();
-        let mut by_segment = SmallSegmentMap::new();
-        let _ = by_id.put(5, 0);
-        refused(
-            &rt,
-            tried(&mut spans, &mut segments, &mut by_id, &mut by_segment),
-        )
+        let mut long = span(Mark::Live, 5);
+        long.meta.count = 65;
+        let mut records = unindexed([long, span(Mark::Free, 0)], segment(1, 0));
+        let _ = records.by_id.put(5, 0);
+        refused(&rt, records)
     }
 
     #[test]
     fn an_index_has_too_little_room(rt: HostRuntime) -> Result<(), Fail> {
-        let mut spans = [span(Mark::Free, 0), span(Mark::Free, 0)];
-        let mut segments = [segment(1, 0)];
-        let mut by_segment = SmallSegmentMap::new();
         match HashedIndex::new(rt.alloc(), 1) {
-            Ok(mut by_id) => refused(
-                &rt,
-                tried(&mut spans, &mut segments, &mut by_id, &mut by_segment),
-            ),
+            Ok(by_id) => {
+                let records = Records {
+                    spans: [span(Mark::Free, 0), span(Mark::Free, 0)],
+                    segments: [segment(1, 0)],
+                    by_id,
+                    by_segment: SmallSegmentMap::new(),
+                };
+                refused(&rt, records)
+            },
             Err(_) => Err(Fail::new("no memory")),
         }
     }

@@ -1,7 +1,7 @@
 // What the words of the command line ask for.
 use crate::{file, play};
 use std::alloc::AllocError;
-use std::io;
+use std::{fmt, io};
 
 const USAGE: &str =
     "trip decode FILE...   prints every operation of each file's change buffer, one line each
@@ -37,24 +37,20 @@ impl From<AllocError> for Failed {
 
 // The commands of the line, which stand between the words `then`, up to one that fails.
 pub fn run(rt: &HostRuntime, words: &[String]) -> Result<(), Failed> {
-    let mut from = 0;
-    for (i, word) in words.iter().enumerate() {
-        if word.as_str() == "then" {
-            obey(rt, &words[from..i])?;
-            from = i + 1;
-        }
+    for command in words.split(|word| word.as_str() == "then") {
+        obey(rt, command)?;
     }
-    obey(rt, &words[from..])
+    Ok(())
 }
 
 fn obey(rt: &HostRuntime, words: &[String]) -> Result<(), Failed> {
-    let Some(command) = words.first() else {
+    let Some((command, paths)) = words.split_first() else {
         return usage(rt);
     };
     match command.as_str() {
         "help" => usage(rt),
-        "decode" => decode(rt, words),
-        "run" => play_all(rt, words),
+        "decode" => each(rt, paths, "decode wants a file", file::decode),
+        "run" => each(rt, paths, "run wants a script", play::play),
         other => {
             eprintln!(rt; "trip: '{other}' is no command; 'trip help' lists them")?;
             Err(Failed)
@@ -67,36 +63,26 @@ fn usage(rt: &HostRuntime) -> Result<(), Failed> {
     Ok(())
 }
 
-// Every script in turn, also after one that could not be read.
-fn play_all(rt: &HostRuntime, words: &[String]) -> Result<(), Failed> {
-    if words.len() < 2 {
-        eprintln!(rt; "trip: run wants a script; 'trip help' shows how")?;
+// Every path in turn, also after one that fails; each that does gets a message. With no path it says what is wanted.
+fn each<E: fmt::Display + Drop, F: Fn(&HostRuntime, &str) -> Result<(), E>>(
+    rt: &HostRuntime,
+    paths: &[String],
+    wanted: &str,
+    act: F,
+) -> Result<(), Failed>
+    requires { F.IsAlwaysCallable act }
+{
+    if paths.is_empty() {
+        eprintln!(rt; "trip: {wanted}; 'trip help' shows how")?;
         return Err(Failed);
     }
-    let mut all_run = true;
-    for path in words.iter().skip(1) {
-        if let Err(trouble) = play::play(rt, path.as_str()) {
-            let path = path.as_str();
+    let mut outcome = Ok(());
+    for path in paths {
+        let path = path.as_str();
+        if let Err(trouble) = act(rt, path) {
             eprintln!(rt; "trip: {path}: {trouble}")?;
-            all_run = false;
+            outcome = Err(Failed);
         }
     }
-    if all_run { Ok(()) } else { Err(Failed) }
-}
-
-// Every file in turn, also after one that could not be read.
-fn decode(rt: &HostRuntime, words: &[String]) -> Result<(), Failed> {
-    if words.len() < 2 {
-        eprintln!(rt; "trip: decode wants a file; 'trip help' shows how")?;
-        return Err(Failed);
-    }
-    let mut all_read = true;
-    for path in words.iter().skip(1) {
-        if let Err(trouble) = file::decode(rt, path.as_str()) {
-            let path = path.as_str();
-            eprintln!(rt; "trip: {path}: {trouble}")?;
-            all_read = false;
-        }
-    }
-    if all_read { Ok(()) } else { Err(Failed) }
+    outcome
 }

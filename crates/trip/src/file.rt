@@ -1,38 +1,20 @@
 // One file: its change buffer read whole, and then printed.
 use decode::error::DecodeError;
-use decode::listing::{Ending, Listing};
+use decode::listing::Listing;
 use hex_text::error::HexError;
 use hex_text::read::read_hex;
-use std::{fmt, fs, io};
+use std::{fs, io};
+use thiserror::Error;
 
 // Why a file's operations are not printed.
-#[derive(Drop)]
+#[derive(Debug, Drop, Error)]
 pub enum Trouble {
-    File(io::Error),
-    Text(HexError),
+    #[error("{0}")]
+    File(#[from] io::Error),
+    #[error("{0}")]
+    Text(#[from] HexError),
+    #[error("no memory for the operations")]
     Memory,
-}
-
-impl From<io::Error> for Trouble {
-    fn from(e: io::Error) -> Trouble {
-        Trouble::File(e)
-    }
-}
-
-impl From<HexError> for Trouble {
-    fn from(e: HexError) -> Trouble {
-        Trouble::Text(e)
-    }
-}
-
-impl fmt::Display for Trouble {
-    fn fmt<W: fmt::Write>(&self, f: &mut fmt::Formatter<W>) -> fmt::Result {
-        match self {
-            Trouble::File(e) => write!(f, "{e}"),
-            Trouble::Text(e) => write!(f, "{e}"),
-            Trouble::Memory => write!(f, "no memory for the operations"),
-        }
-    }
 }
 
 pub fn decode(rt: &HostRuntime, path: &str) -> Result<(), Trouble> {
@@ -54,9 +36,7 @@ fn show(rt: &HostRuntime, path: &str, len: usize, listing: &Listing) -> io::Resu
         println!(rt; "{operation}")?;
     }
     match listing.ending {
-        Ending::Accepted(rest) => {
-            println!(rt; "accepted: {count} operations, {rest} bytes after them")
-        }
-        Ending::Refused(fault) => println!(rt; "refused: {fault}"),
+        Ok(rest) => println!(rt; "accepted: {count} operations, {rest} bytes after them"),
+        Err(fault) => println!(rt; "refused: {fault}"),
     }
 }

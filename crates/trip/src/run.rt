@@ -1,6 +1,6 @@
-// A run of a script over tables of its own.
-use crate::script::{Change, Question};
-use index::Index;
+// A recorder with tables and indexes of its own, and its answers to the calls of a script.
+use crate::script::{BadScript, Call, Sizes};
+use hashed_index::hashed::HashedIndex;
 use layout::utils::TraceId;
 use questions::{get_handed, get_numbers, get_segment, get_span};
 use recorder::decisions::set_decisions;
@@ -8,7 +8,8 @@ use recorder::defaults::set_default_meta;
 use recorder::setup::set_up;
 use recorder::strings::{string_table_evict_one, string_table_insert_one};
 use refusals::ChangeBufferError;
-use std::alloc::{AllocError, Global};
+use small_index::segment::SmallSegmentMap;
+use std::alloc::Global;
 use std::fmt;
 use tables::segment::Segment;
 use tables::settings::Settings;
@@ -18,13 +19,12 @@ use texts::Text;
 use texts::short::ShortText;
 use vec_map::head::Head;
 
-// What a call answers.
-#[derive(Clone, Copy)]
+// What an accepted call answers.
+#[derive(Clone, Copy, PartialEq, Eq, Debug)]
 pub enum Answer {
     Accepted,
-    Refused(ChangeBufferError),
-    Record(usize),
-    NoSegment,
+    // The number of a record, or that there is none.
+    Record(Option<usize>),
     HandedOut,
     Numbers(usize, usize, usize),
 }
@@ -33,9 +33,8 @@ impl fmt::Display for Answer {
     fn fmt<W: fmt::Write>(&self, f: &mut fmt::Formatter<W>) -> fmt::Result {
         match self {
             Answer::Accepted => write!(f, "accepted"),
-            Answer::Refused(e) => write!(f, "refused: {e}"),
-            Answer::Record(number) => write!(f, "record {number}"),
-            Answer::NoSegment => write!(f, "none"),
+            Answer::Record(Some(number)) => write!(f, "record {number}"),
+            Answer::Record(None) => write!(f, "none"),
             Answer::HandedOut => write!(f, "handed out"),
             Answer::Numbers(live, handed_out, free) => {
                 write!(f, "{live} live, {handed_out} handed out, {free} free")
@@ -44,19 +43,14 @@ impl fmt::Display for Answer {
     }
 }
 
-const EMPTY: Head = Head {
-    count: 0,
-    deduped: false,
-};
-
 fn blank_span() -> Span<ShortText> {
     let none = <ShortText as Text>::empty();
     Span {
         mark: Mark::Free,
         id: 0,
         segment: 0,
-        meta: EMPTY,
-        metrics: EMPTY,
+        meta: Head::default(),
+        metrics: Head::default(),
         trace: TraceId { low: 0, high: 0 },
         parent: 0,
         start: 0,
@@ -73,8 +67,8 @@ fn blank_segment() -> Segment<ShortText> {
     Segment {
         id: 0,
         count: 0,
-        meta: EMPTY,
-        metrics: EMPTY,
+        meta: Head::default(),
+        metrics: Head::default(),
         origin: None,
         rule: None,
         limit: None,
@@ -82,142 +76,115 @@ fn blank_segment() -> Segment<ShortText> {
     }
 }
 
-pub fn blank_spans(heap: Global, count: usize) -> Result<Vec<Span<ShortText>>, AllocError> {
-    let mut spans = Vec::new(heap);
-    for _ in 0..count {
-        spans.push(blank_span())?;
-    }
-    Ok(spans)
+// The pairs of so many rows.
+fn rows<V: Copy + Clone>(
+    heap: Global,
+    records: usize,
+    width: usize,
+    value: V,
+) -> Result<Vec<(ShortText, V)>, BadScript> {
+    let count = records.checked_mul(width).ok_or(BadScript::TooLarge)?;
+    Ok(vec![in heap; (<ShortText as Text>::empty(), value); count]?)
 }
 
-pub fn blank_segments(heap: Global, count: usize) -> Result<Vec<Segment<ShortText>>, AllocError> {
-    let mut segments = Vec::new(heap);
-    for _ in 0..count {
-        segments.push(blank_segment())?;
-    }
-    Ok(segments)
+#[derive(Drop)]
+pub struct Recorder {
+    spans: Vec<Span<ShortText>>,
+    span_meta: Vec<(ShortText, ShortText)>,
+    span_metrics: Vec<(ShortText, u64)>,
+    segments: Vec<Segment<ShortText>>,
+    segment_meta: Vec<(ShortText, ShortText)>,
+    segment_metrics: Vec<(ShortText, u64)>,
+    strings: Vec<Option<ShortText>>,
+    defaults: Vec<(ShortText, ShortText)>,
+    settings: Settings<ShortText>,
+    by_id: HashedIndex,
+    by_segment: SmallSegmentMap,
 }
 
-// A call that changes the recorder, over the tables.
-pub fn changed<S: Index, G: Index>(
-    spans: &mut [Span<ShortText>],
-    span_meta: &mut [(ShortText, ShortText)],
-    span_metrics: &mut [(ShortText, u64)],
-    segments: &mut [Segment<ShortText>],
-    segment_meta: &mut [(ShortText, ShortText)],
-    segment_metrics: &mut [(ShortText, u64)],
-    strings: &mut [Option<ShortText>],
-    defaults: &mut [(ShortText, ShortText)],
-    settings: &mut Settings<ShortText>,
-    by_id: &mut S,
-    by_segment: &mut G,
-    change: &Change,
-) -> Answer {
-    let tables = Tables {
-        spans,
-        span_meta,
-        span_metrics,
-        segment_meta,
-        segment_metrics,
-        strings,
-        defaults,
-    };
-    let result = match change {
-        Change::SetUp {
-            service,
-            language,
-            pid,
-            sizes: _,
-        } => set_up(
-            tables, segments, settings, by_id, by_segment, *service, *language, *pid,
-        ),
-        Change::StringInsert(key, text) => {
-            string_table_insert_one(tables, segments, settings, by_id, by_segment, *key, *text)
+impl Recorder {
+    // A recorder that is not set up yet, with a hashed index of twice as many places as there are span records, as far
+    // as that goes.
+    pub fn new(heap: Global, sizes: Sizes) -> Result<Recorder, BadScript> {
+        let none = <ShortText as Text>::empty();
+        let places = sizes.spans.saturating_mul(2).clamp(1, 65536);
+        Ok(Recorder {
+            spans: (0..sizes.spans).map(|_| blank_span()).collect(heap)?,
+            span_meta: rows(heap, sizes.spans, 99, none)?,
+            span_metrics: rows(heap, sizes.spans, 54, 0)?,
+            segments: (0..sizes.segments)
+                .map(|_| blank_segment())
+                .collect(heap)?,
+            segment_meta: rows(heap, sizes.segments, 32, none)?,
+            segment_metrics: rows(heap, sizes.segments, 16, 0)?,
+            strings: vec![in heap; None; sizes.strings]?,
+            defaults: rows(heap, 1, 32, none)?,
+            settings: Settings {
+                service: none,
+                language: none,
+                pid: 0,
+                defaults: 0,
+                next_free: 0,
+            },
+            by_id: HashedIndex::new(heap, places).map_err(|_| BadScript::TooLarge)?,
+            by_segment: SmallSegmentMap::new(),
+        })
+    }
+
+    pub fn answer(&mut self, call: &Call) -> Result<Answer, ChangeBufferError> {
+        let tables = &mut Tables {
+            spans: self.spans.as_mut_slice(),
+            span_meta: self.span_meta.as_mut_slice(),
+            span_metrics: self.span_metrics.as_mut_slice(),
+            segment_meta: self.segment_meta.as_mut_slice(),
+            segment_metrics: self.segment_metrics.as_mut_slice(),
+            strings: self.strings.as_mut_slice(),
+            defaults: self.defaults.as_mut_slice(),
+        };
+        let segments = self.segments.as_mut_slice();
+        let settings = &mut self.settings;
+        let by_id = &mut self.by_id;
+        let by_segment = &mut self.by_segment;
+        match call {
+            Call::SetUp {
+                service,
+                language,
+                pid,
+                ..
+            } => set_up(
+                tables, segments, settings, by_id, by_segment, *service, *language, *pid,
+            )?,
+            Call::StringInsert(key, text) => {
+                string_table_insert_one(tables, segments, settings, by_id, by_segment, *key, *text)?
+            }
+            Call::StringEvict(key) => {
+                string_table_evict_one(tables, segments, settings, by_id, by_segment, *key)?
+            }
+            Call::Defaults(pairs) => {
+                let pairs = pairs.as_slice();
+                set_default_meta(tables, segments, settings, by_id, by_segment, pairs)?
+            }
+            Call::Decisions(id, decisions) => {
+                set_decisions(tables, segments, settings, by_id, by_segment, *id, *decisions)?
+            }
+            Call::Span(id) => {
+                let number = get_span(tables, segments, settings, by_id, by_segment, *id)?;
+                return Ok(Answer::Record(Some(number)));
+            }
+            Call::Segment(id) => {
+                let number = get_segment(tables, segments, settings, by_id, by_segment, *id)?;
+                return Ok(Answer::Record(number));
+            }
+            Call::Handed(number) => {
+                get_handed(tables, segments, settings, by_id, by_segment, *number)?;
+                return Ok(Answer::HandedOut);
+            }
+            Call::Numbers => {
+                let (live, handed_out, free) =
+                    get_numbers(tables, segments, settings, by_id, by_segment)?;
+                return Ok(Answer::Numbers(live, handed_out, free));
+            }
         }
-        Change::StringEvict(key) => string_table_evict_one(
-            tables, segments, settings, by_id, by_segment, *key,
-        ),
-        Change::Defaults(pairs) => {
-            set_default_meta(
-                tables,
-                segments,
-                settings,
-                by_id,
-                by_segment,
-                pairs.as_slice(),
-            )
-        }
-        Change::Decisions(id, d) => {
-            set_decisions(
-                tables, segments, settings, by_id, by_segment, *id, d.rule, d.limit, d.agent,
-            )
-        }
-    };
-    match result {
-        Ok(_) => Answer::Accepted,
-        Err(e) => Answer::Refused(e),
+        Ok(Answer::Accepted)
     }
-}
-
-// A question, over the tables.
-pub fn asked<S: Index, G: Index>(
-    spans: &mut [Span<ShortText>],
-    span_meta: &mut [(ShortText, ShortText)],
-    span_metrics: &mut [(ShortText, u64)],
-    segments: &mut [Segment<ShortText>],
-    segment_meta: &mut [(ShortText, ShortText)],
-    segment_metrics: &mut [(ShortText, u64)],
-    strings: &mut [Option<ShortText>],
-    defaults: &mut [(ShortText, ShortText)],
-    settings: &mut Settings<ShortText>,
-    by_id: &mut S,
-    by_segment: &mut G,
-    question: Question,
-) -> Answer {
-    let tables = Tables {
-        spans,
-        span_meta,
-        span_metrics,
-        segment_meta,
-        segment_metrics,
-        strings,
-        defaults,
-    };
-    let result = match question {
-        Question::Span(id) => record(get_span(&tables, segments, settings, by_id, by_segment, id)),
-        Question::Segment(id) => standing(get_segment(
-            &tables, segments, settings, by_id, by_segment, id,
-        )),
-        Question::Handed(number) => handed(get_handed(
-            &tables, segments, settings, by_id, by_segment, number,
-        )),
-        Question::Numbers => numbers(get_numbers(&tables, segments, settings, by_id, by_segment)),
-    };
-    match result {
-        Ok(answer) => answer,
-        Err(e) => Answer::Refused(e),
-    }
-}
-
-fn record(found: Result<usize, ChangeBufferError>) -> Result<Answer, ChangeBufferError> {
-    Ok(Answer::Record(found?))
-}
-
-fn standing(found: Result<Option<usize>, ChangeBufferError>) -> Result<Answer, ChangeBufferError> {
-    match found? {
-        Some(number) => Ok(Answer::Record(number)),
-        None => Ok(Answer::NoSegment),
-    }
-}
-
-fn handed(found: Result<(), ChangeBufferError>) -> Result<Answer, ChangeBufferError> {
-    found?;
-    Ok(Answer::HandedOut)
-}
-
-fn numbers(
-    found: Result<(usize, usize, usize), ChangeBufferError>,
-) -> Result<Answer, ChangeBufferError> {
-    let (live, handed_out, free) = found?;
-    Ok(Answer::Numbers(live, handed_out, free))
 }

@@ -1,18 +1,14 @@
 // A script: one call a line, its name first and then its words. Comments go from '#' to the line's end.
-use std::alloc::{AllocError, AllocFailed, Global};
+use std::alloc::{AllocError, Global};
 use std::fmt;
-use std::str::FromStr;
+use std::io;
+use std::str::{FromStr, SplitWhitespace};
+use tables::segment::Decisions;
 use texts::short::ShortText;
+use thiserror::Error;
 
 #[derive(Drop)]
 pub enum Call {
-    Change(Change),
-    Ask(Question),
-}
-
-// A call that changes the recorder.
-#[derive(Drop)]
-pub enum Change {
     SetUp {
         service: ShortText,
         language: ShortText,
@@ -23,17 +19,6 @@ pub enum Change {
     StringEvict(u32),
     Defaults(Vec<(ShortText, ShortText)>),
     Decisions(u64, Decisions),
-}
-
-#[derive(Clone, Copy)]
-pub struct Decisions {
-    pub rule: Option<f64>,
-    pub limit: Option<f64>,
-    pub agent: Option<f64>,
-}
-
-#[derive(Clone, Copy)]
-pub enum Question {
     Span(u64),
     Segment(u64),
     Handed(usize),
@@ -41,15 +26,29 @@ pub enum Question {
 }
 
 // How many span records, segment records and strings the tables have.
-#[derive(Clone, Copy)]
+#[derive(Clone, Copy, PartialEq, Eq, Debug)]
 pub struct Sizes {
     pub spans: usize,
     pub segments: usize,
     pub strings: usize,
 }
 
+// A call with the line that says it, which is printed with the answer.
+#[derive(Drop)]
+pub struct Line<'a> {
+    pub text: &'a str,
+    pub call: Call,
+}
+
+// Calls of which the first, and no other, is a set-up; the sizes are those that it names.
+#[derive(Drop)]
+pub struct Script<'a> {
+    pub sizes: Sizes,
+    pub lines: Vec<Line<'a>>,
+}
+
 // A word that a call takes.
-#[derive(Clone, Copy)]
+#[derive(Clone, Copy, PartialEq, Eq, Debug)]
 pub enum Part {
     Service,
     Language,
@@ -72,13 +71,7 @@ pub enum Part {
 
 impl fmt::Display for Part {
     fn fmt<W: fmt::Write>(&self, f: &mut fmt::Formatter<W>) -> fmt::Result {
-        f.write_str(self.name())
-    }
-}
-
-impl Part {
-    fn name(self) -> &'static str {
-        match self {
+        f.write_str(match self {
             Part::Service => "the service",
             Part::Language => "the language",
             Part::ProcessId => "the process id",
@@ -96,140 +89,160 @@ impl Part {
             Part::Agent => "the agent decision",
             Part::SpanId => "the span's id",
             Part::RecordNumber => "the record's number",
-        }
+        })
     }
 }
 
 // What is wrong with a line.
-#[derive(Drop)]
+#[derive(Debug, Drop, Error)]
 pub enum BadLine {
+    #[error("no such call; 'trip help' lists them")]
     Unknown,
+    #[error("{0} is missing")]
     Missing(Part),
+    #[error("{0} is no such number")]
     NoNumber(Part),
+    #[error("{0} has more than 64 bytes or no '='")]
     NoText(Part),
-    Memory,
+    #[error("no memory")]
+    Memory(#[from(alloc)] AllocError),
 }
 
-impl fmt::Display for BadLine {
-    fn fmt<W: fmt::Write>(&self, f: &mut fmt::Formatter<W>) -> fmt::Result {
-        match self {
-            BadLine::Unknown => write!(f, "no such call; 'trip help' lists them"),
-            BadLine::Missing(part) => write!(f, "{part} is missing"),
-            BadLine::NoNumber(part) => write!(f, "{part} is no such number"),
-            BadLine::NoText(part) => write!(f, "{part} has more than 64 bytes or no '='"),
-            BadLine::Memory => write!(f, "no memory"),
+// Why a script is not run.
+#[derive(Debug, Drop, Error)]
+pub enum BadScript {
+    #[error("{0}")]
+    File(#[from] io::Error),
+    #[error("line {0}: {1}")]
+    Line(usize, BadLine),
+    #[error("the first call has to be a setup")]
+    NoSetUp,
+    #[error("line {0}: there can be one setup only")]
+    SetUpAgain(usize),
+    // The tables would have more places than can be counted, or no index has so many.
+    #[error("no memory for the tables")]
+    TooLarge,
+    #[error("no memory for the tables")]
+    Memory(#[from(alloc)] AllocError),
+}
+
+impl<'a> Script<'a> {
+    // All lines are read before any call is made, up to the first that is no call or stands where it must not.
+    pub fn parse(heap: Global, text: &'a str) -> Result<Script<'a>, BadScript> {
+        let mut sizes = None;
+        let mut lines = Vec::new(heap);
+        for (i, line) in text.lines().enumerate() {
+            let number = i.saturating_add(1);
+            let text = line.split_once('#').map_or(line, |(before, _)| before).trim();
+            match call_of(heap, text) {
+                Ok(Some(call)) => {
+                    sizes = Some(sizes_with(sizes, &call, number)?);
+                    lines.push(Line { text, call })?;
+                }
+                Ok(None) => {}
+                Err(what) => return Err(BadScript::Line(number, what)),
+            }
         }
+        let sizes = sizes.ok_or(BadScript::NoSetUp)?;
+        Ok(Script { sizes, lines })
     }
 }
 
-impl From<AllocError> for BadLine {
-    fn from(_e: AllocError) -> BadLine {
-        BadLine::Memory
+// The sizes after one more call: its own where it is the first, which has to be the set-up, and else those found before.
+fn sizes_with(found: Option<Sizes>, call: &Call, number: usize) -> Result<Sizes, BadScript> {
+    match (found, call) {
+        (None, Call::SetUp { sizes, .. }) => Ok(*sizes),
+        (Some(_), Call::SetUp { .. }) => Err(BadScript::SetUpAgain(number)),
+        (Some(sizes), _) => Ok(sizes),
+        (None, _) => Err(BadScript::NoSetUp),
     }
 }
 
-impl<T: Drop> From<AllocFailed<T>> for BadLine {
-    fn from(_e: AllocFailed<T>) -> BadLine {
-        BadLine::Memory
-    }
-}
-
-// The part of a line before a comment.
-pub fn uncommented(line: &str) -> &str {
-    match line.split_once('#') {
-        Some((before, _)) => before,
-        None => line,
-    }
-}
-
-pub fn parse(heap: Global, words: &[&str]) -> Result<Call, BadLine> {
-    let Some(name) = words.first() else {
-        return Err(BadLine::Unknown);
+// The call of a line without its comment, none where the line is empty.
+fn call_of(heap: Global, line: &str) -> Result<Option<Call>, BadLine> {
+    let mut words = line.split_whitespace();
+    let Some(name) = words.next() else {
+        return Ok(None);
     };
-    match *name {
-        "setup" => Ok(Call::Change(set_up(words)?)),
-        "string" => Ok(Call::Change(string(words)?)),
-        "evict" => Ok(Call::Change(Change::StringEvict(number(words, 1, Part::StringNumber)?))),
-        "defaults" => Ok(Call::Change(defaults(heap, words)?)),
-        "decisions" => Ok(Call::Change(decide(words)?)),
-        "span" => Ok(Call::Ask(Question::Span(number(words, 1, Part::SpanId)?))),
-        "segment" => Ok(Call::Ask(Question::Segment(number(words, 1, Part::SegmentId)?))),
-        "handed" => Ok(Call::Ask(Question::Handed(number(words, 1, Part::RecordNumber)?))),
-        "numbers" => Ok(Call::Ask(Question::Numbers)),
-        _ => Err(BadLine::Unknown),
-    }
+    let words = &mut words;
+    let call = match name {
+        "setup" => set_up(words)?,
+        "string" => Call::StringInsert(number(words, Part::StringNumber)?, text(words, Part::Text)?),
+        "evict" => Call::StringEvict(number(words, Part::StringNumber)?),
+        "defaults" => defaults(heap, words)?,
+        "decisions" => Call::Decisions(number(words, Part::SegmentId)?, three_decisions(words)?),
+        "span" => Call::Span(number(words, Part::SpanId)?),
+        "segment" => Call::Segment(number(words, Part::SegmentId)?),
+        "handed" => Call::Handed(number(words, Part::RecordNumber)?),
+        "numbers" => Call::Numbers,
+        _ => return Err(BadLine::Unknown),
+    };
+    Ok(Some(call))
 }
 
-fn string(words: &[&str]) -> Result<Change, BadLine> {
-    let key = number(words, 1, Part::StringNumber)?;
-    let text = text(words, 2, Part::Text)?;
-    Ok(Change::StringInsert(key, text))
-}
-
-fn set_up(words: &[&str]) -> Result<Change, BadLine> {
-    Ok(Change::SetUp {
-        service: text(words, 1, Part::Service)?,
-        language: text(words, 2, Part::Language)?,
-        pid: number(words, 3, Part::ProcessId)?,
+fn set_up(words: &mut SplitWhitespace<'_>) -> Result<Call, BadLine> {
+    Ok(Call::SetUp {
+        service: text(words, Part::Service)?,
+        language: text(words, Part::Language)?,
+        pid: number(words, Part::ProcessId)?,
         sizes: Sizes {
-            spans: number(words, 4, Part::SpanRecords)?,
-            segments: number(words, 5, Part::Segments)?,
-            strings: number(words, 6, Part::Strings)?,
+            spans: number(words, Part::SpanRecords)?,
+            segments: number(words, Part::Segments)?,
+            strings: number(words, Part::Strings)?,
         },
     })
 }
 
-fn defaults(heap: Global, words: &[&str]) -> Result<Change, BadLine> {
+fn defaults(heap: Global, words: &mut SplitWhitespace<'_>) -> Result<Call, BadLine> {
     let mut pairs = Vec::new(heap);
-    for word in words.iter().skip(1) {
+    for word in words {
         let Some((key, value)) = word.split_once('=') else {
             return Err(BadLine::NoText(Part::Pair));
         };
         pairs.push((made(key, Part::Key)?, made(value, Part::Value)?))?;
     }
-    Ok(Change::Defaults(pairs))
+    Ok(Call::Defaults(pairs))
 }
 
-fn decide(words: &[&str]) -> Result<Change, BadLine> {
-    let id = number(words, 1, Part::SegmentId)?;
-    let rule = decision(words, 2, Part::Rule)?;
-    let limit = decision(words, 3, Part::Limit)?;
-    let agent = decision(words, 4, Part::Agent)?;
-    Ok(Change::Decisions(id, Decisions { rule, limit, agent }))
+fn three_decisions(words: &mut SplitWhitespace<'_>) -> Result<Decisions, BadLine> {
+    Ok(Decisions {
+        rule: decision(words, Part::Rule)?,
+        limit: decision(words, Part::Limit)?,
+        agent: decision(words, Part::Agent)?,
+    })
 }
 
-fn word<'a>(words: &[&'a str], place: usize, part: Part) -> Result<&'a str, BadLine> {
-    match words.get(place) {
-        Some(word) => Ok(*word),
-        None => Err(BadLine::Missing(part)),
-    }
+// The next word, which is this part of the call.
+fn word<'a>(words: &mut SplitWhitespace<'a>, part: Part) -> Result<&'a str, BadLine> {
+    words.next().ok_or(BadLine::Missing(part))
 }
 
-fn number<N: FromStr>(words: &[&str], place: usize, part: Part) -> Result<N, BadLine>
+fn number<N: FromStr>(words: &mut SplitWhitespace<'_>, part: Part) -> Result<N, BadLine>
 where
     N::Err: Drop,
 {
-    match word(words, place, part)?.parse::<N>() {
-        Ok(n) => Ok(n),
-        Err(_) => Err(BadLine::NoNumber(part)),
-    }
+    numbered(word(words, part)?, part)
+}
+
+fn numbered<N: FromStr>(word: &str, part: Part) -> Result<N, BadLine>
+where
+    N::Err: Drop,
+{
+    word.parse::<N>().map_err(|_| BadLine::NoNumber(part))
 }
 
 // A decision, or '-' for none.
-fn decision(words: &[&str], place: usize, part: Part) -> Result<Option<f64>, BadLine> {
-    if word(words, place, part)? == "-" {
-        return Ok(None);
+fn decision(words: &mut SplitWhitespace<'_>, part: Part) -> Result<Option<f64>, BadLine> {
+    match word(words, part)? {
+        "-" => Ok(None),
+        word => Ok(Some(numbered(word, part)?)),
     }
-    Ok(Some(number(words, place, part)?))
 }
 
-fn text(words: &[&str], place: usize, part: Part) -> Result<ShortText, BadLine> {
-    made(word(words, place, part)?, part)
+fn text(words: &mut SplitWhitespace<'_>, part: Part) -> Result<ShortText, BadLine> {
+    made(word(words, part)?, part)
 }
 
 fn made(word: &str, part: Part) -> Result<ShortText, BadLine> {
-    match ShortText::from_bytes(word.as_bytes()) {
-        Ok(text) => Ok(text),
-        Err(_) => Err(BadLine::NoText(part)),
-    }
+    ShortText::from_bytes(word.as_bytes()).map_err(|_| BadLine::NoText(part))
 }
