@@ -3,12 +3,13 @@
 -- A loop over them keeps `Found` and the number `many`, by the lemmas `-none` and `-more`, and ends by `found_all`.
 use Rattle.std.proofs.Common.{◌≡◌, ℕ, zero, suc, ◌+◌, ◌<◌, ◌≤◌, Bool, ◌⊎◌, List, [], ◌∷◌, length, Some, None, Decides, Option, sym, refl, ap, ◌∙◌, subst, inl, inr, ⊎_elim, add-one, arith}
 use Rattle.std.proofs.lemmas.Bool.{cases_lt}
+use Rattle.std.proofs.lemmas.Option.{none-some}
 use Rattle.std.proofs.lemmas.Bool.Decides.{Decides-like}
 use Rattle.index.specs.declared.entry.Entry.{Entry}
 use Rattle.index.specs.Held.{at, Once}
 use Rattle.index.specs.Holding.{Holds}
 use Rattle.index.proofs.Pigeons.{Mem, Apart, pigeons, mem_cases}
-use Rattle.index.proofs.Entries.{none-some, same_some, ids_of, length_ids, at_mem, mem_at, once-apart}
+use Rattle.index.proofs.Entries.{same_some, ids_of, length_ids, at_mem, mem_at, once-apart}
 
 -- the ids of the records below a place
 abbrev onto : Option ℕ → List ℕ → List ℕ
@@ -96,7 +97,7 @@ lives_apart es id-of (suc n) f =
 -- ---- at the end
 module _ (es : List Entry) (id-of : ℕ → Option ℕ) (n : ℕ) (once : Once es) (past : (i : ℕ) → n ≤ i → id-of i ≡ None) (found : Found es id-of n) where
   below : (i k : ℕ) → id-of i ≡ Some k → i < n
-  below i k e = elim (cases_lt i n) [ inl l ↦ l | inr ge ↦ absurd (none-some (id-of i) k (past i ge) e) ]
+  below i k e = elim (cases_lt i n) [ inl l ↦ l | inr ge ↦ absurd (none-some k (sym (past i ge) ∙ e)) ]
 
   into : (q : ℕ) → Mem q (lives id-of n) → Mem q (ids_of es)
   into q m = let p = mem_lives id-of n q m in at_mem es q p.0 (found p.0 q p.1 p.2)

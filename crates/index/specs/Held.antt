@@ -1,5 +1,5 @@
 -- What an index means: a list of entries, of which no two have one id.
-use Rattle.std.specs.Prelude.{◌≡◌, ℕ, ◌+◌, ◌<◌, cond, List, [], ◌∷◌, length, is_some, Some, None, Ok, Err, Option, Result, ◌==◌, nat_eq, slice_index_or}
+use Rattle.std.specs.Prelude.{◌≡◌, ℕ, ◌+◌, ◌<◌, if◌then◌else◌, List, [], ◌∷◌, length, is_some, Some, None, Ok, Err, Option, Result, ◌==◌, nat_eq, slice_index_or}
 use Rattle.std.specs.Map.{update}
 use Rattle.index.specs.declared.entry.Entry.{Entry}
 use Rattle.index.specs.declared.entry.Full.{Full}
@@ -16,7 +16,7 @@ blank = record { id = 0; number = 0 }
 -- the number that an id stands for
 abbrev pub at : List Entry → ℕ → Option ℕ
 at [] k = None
-at (e ∷ es) k = cond (k == e.id) (Some e.number) (at es k)
+at (e ∷ es) k = if k == e.id then Some e.number else at es k
 
 -- no id stands twice
 abbrev pub Once : List Entry → Type 0
@@ -26,11 +26,11 @@ Once es = (i j : ℕ) → (i < j) × (j < length es) × ((slice_index_or es i bl
 abbrev pub Put : List Entry → List Entry → ℕ → ℕ → ℕ → Result (Option ℕ) Full → Type 0
 Put before after room k n (Ok former) =
     (former ≡ at before k) × ((q : ℕ) → at after q ≡ update nat_eq (at before) k (Some n) q)
-    × (length after ≡ length before + cond (is_some former) 0 1)
+    × (length after ≡ length before + (if is_some former then 0 else 1))
 Put before after room k n (Err e) = (at before k ≡ None) × (length before ≡ room)
 
 -- a removal of the id k answers the former number and takes that one out
 abbrev pub Removed : List Entry → List Entry → ℕ → Option ℕ → Type 0
 Removed before after k former =
     (former ≡ at before k) × ((q : ℕ) → at after q ≡ update nat_eq (at before) k None q)
-    × (length after + cond (is_some former) 1 0 ≡ length before)
+    × (length after + (if is_some former then 1 else 0) ≡ length before)

@@ -1,5 +1,5 @@
 -- The words of texts: the eleven fixed words, the words of listed text, the word that a name means, and the byte at a place.
-use Rattle.std.specs.Prelude.{◌≡◌, ℕ, ◌<◌, ◌≤◌, cond, List, [], ◌∷◌, ◌++◌, length, Some, None, codes, Option, slice_index, slice_index_or}
+use Rattle.std.specs.Prelude.{◌≡◌, ℕ, ◌<◌, ◌≤◌, if◌then◌else◌, List, [], ◌∷◌, ◌++◌, length, Some, None, codes, Option, slice_index, slice_index_or}
 use Rattle.std.specs.Str.{bytes_eq}
 
 -- the byte at a place of a list of bytes, none past the end
@@ -17,7 +17,7 @@ fixed_words =
 -- the word if it is one of the given words, else no bytes
 abbrev pub among : List (List ℕ) → List ℕ → List ℕ
 among [] w = []
-among (x ∷ xs) w = cond (bytes_eq w x) x (among xs w)
+among (x ∷ xs) w = if bytes_eq w x then x else among xs w
 
 -- the fixed word that is named, no bytes for any other word
 abbrev pub fixed : List ℕ → List ℕ

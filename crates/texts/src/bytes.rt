@@ -6,11 +6,7 @@ ghost use Rattle.texts.specs.Words.{At};
 pub fn byte_of(bytes: &[u8], place: usize) -> Option<u8>
     ensures { At bytes.now place result }
 {
-    if place < bytes.len() {
-        Some(bytes[place])
-    } else {
-        None
-    }
+    bytes.get(place).copied()
 }
 
 // Whether both slices hold the same bytes.

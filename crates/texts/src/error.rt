@@ -7,7 +7,7 @@ ghost use Rattle.texts.specs.Refused.{told};
 pub struct NoSuchText;
 
 impl NoSuchText {
-    // The number of this refusal.
+    // The number of this refusal, as a rule of this project has it.
     pub fn number(&self) -> u32
         ensures { result ≡ (told self.now).0 }
     {

@@ -13,10 +13,6 @@ pub mod short;
 pub trait Text: Copy {
     ghost bytes: { Self → List ℕ };
 
-    // A text has at most 255 bytes. (A law beside a method that takes a `&'static str` is not proved yet, so each
-    // kind gives the proof here.)
-    ghost few: { (t : Self) → length (bytes t) ≤ 255 };
-
     // The text of no bytes.
     fn empty() -> Self
         ensures { bytes result ≡ List.[] };
@@ -35,4 +31,7 @@ pub trait Text: Copy {
     // Whether both have the same bytes.
     fn same(&self, other: &Self) -> bool
         ensures { IsTrue result ↔ (bytes self.now ≡ bytes other.now) };
+
+    // A text has at most 255 bytes.
+    ghost few: { (t : Self) → length (bytes t) ≤ 255 };
 }

@@ -1,20 +1,20 @@
 // Listed text: a number into a list of words without repeats.
-ghost use Rattle.std.specs.Prelude.{◌≡◌, ℕ, ◌<◌, ◌≤◌, List, map, length, MatchResult, slice_index_or};
+ghost use Rattle.std.specs.Prelude.{◌≡◌, ℕ, ◌<◌, List, MatchResult, slice_index_or};
 ghost use Rattle.texts.specs.Refused.{told};
 ghost use Rattle.texts.specs.Few.{listed-few};
 ghost use Rattle.texts.specs.Words.{OnList, listed_words};
 
 use crate::Text;
-use crate::bytes::{byte_of, same_bytes};
+use crate::bytes::byte_of;
 use crate::error::NoSuchText;
 
-#[derive(Clone, Copy)]
+#[derive(Clone, Copy, PartialEq, Eq, Debug)]
 pub struct ListedText {
     number: u8,
     ghost known: { number < 18 },
 }
 
-const WORDS: [&'static [u8]; 18] = [
+const WORDS: [&[u8]; 18] = [
     b"",
     b"_dd.top_level",
     b"_dd.measured",
@@ -35,31 +35,24 @@ const WORDS: [&'static [u8]; 18] = [
     b"arm",
 ];
 
-fn pick(words: &[&'static [u8]], i: usize) -> &'static [u8]
-    requires { i < length words.now }
-    ensures { result.now ≡ slice_index_or (map (λ x. x.now) words.now) i List.[] }
-{
-    words[i]
-}
-
 impl ListedText {
     // The text of these bytes, refused where they are not on the list.
     pub fn from_bytes(bytes: &[u8]) -> Result<ListedText, NoSuchText>
         ensures { MatchResult result (λ t. slice_index_or listed_words t.number List.[] ≡ bytes.now) (λ e. (told e ≡ (15, List.[])) × (OnList bytes.now → ⊥)) }
     {
-        for number in 0..18 {
-            let text = ListedText { number };
-            if same_bytes(text.word(), bytes) {
-                return Ok(text);
-            }
-        }
-        Err(NoSuchText)
+        let number = WORDS
+            .iter()
+            .position(|word| *word == bytes)
+            .ok_or(NoSuchText)?;
+        Ok(ListedText {
+            number: number as u8,
+        })
     }
 
     fn word(&self) -> &'static [u8]
         ensures { result.now ≡ slice_index_or listed_words self.now.number List.[] }
     {
-        pick(&WORDS, self.number as usize)
+        WORDS[self.number as usize]
     }
 }
 
@@ -72,6 +65,7 @@ impl Text for ListedText {
         ListedText { number: 0 }
     }
 
+    // The words stand here as literals, in each kind of text: a fixed form of this project.
     fn from_static_str(word: &'static str) -> ListedText {
         let number = match word {
             "_dd.top_level" => 1,
@@ -99,6 +93,6 @@ impl Text for ListedText {
     }
 
     fn same(&self, other: &ListedText) -> bool {
-        self.number == other.number
+        self == other
     }
 }

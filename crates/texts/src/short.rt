@@ -7,6 +7,8 @@ use crate::Text;
 use crate::bytes::{byte_of, same_bytes};
 use crate::error::NoSuchText;
 
+// A text takes its memory from no heap: an array, and how many of its bytes are meant. What stands past them may differ
+// between equal texts, so `same` compares what is meant, and no `==` is derived.
 #[derive(Clone, Copy)]
 pub struct ShortText {
     held: [u8; 64],
@@ -30,16 +32,17 @@ impl ShortText {
         ensures { take result.count result.held ≡ bytes.now }
     {
         let mut held = [0; 64];
-        let count = bytes.len();
-        let part = &mut held[0..count];
-        part.copy_from_slice(bytes);
-        ShortText { held, count }
+        held[..bytes.len()].copy_from_slice(bytes);
+        ShortText {
+            held,
+            count: bytes.len(),
+        }
     }
 
     fn as_bytes(&self) -> &[u8]
         ensures { result.now ≡ take self.now.count self.now.held }
     {
-        &self.held[0..self.count]
+        &self.held[..self.count]
     }
 }
 
@@ -55,6 +58,7 @@ impl Text for ShortText {
         }
     }
 
+    // The words stand here as literals, in each kind of text: a fixed form of this project.
     fn from_static_str(word: &'static str) -> ShortText {
         match word {
             "_dd.top_level"

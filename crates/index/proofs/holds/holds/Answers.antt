@@ -1,8 +1,10 @@
-use Rattle.std.proofs.Common.{◌≡◌, Some, None, sym, ap, ◌∙◌, arith, rules}
+use Rattle.std.proofs.Common.{◌≡◌, eqb, length, Some, None, Decides, sym, ap, ◌∙◌, subst, arith, rules}
+use Rattle.std.proofs.lemmas.Bool.Decides.{Decides-eqb}
 use Rattle.std.proofs.lemmas.List.{get_or_past}
+use Rattle.std.proofs.lemmas.Option.{none-some}
 use Rattle.index.specs.Held.{at}
 use Rattle.index.specs.Holding.{placed}
-use Rattle.index.proofs.Entries.{none-some, same_some}
+use Rattle.index.proofs.Entries.{same_some}
 use Rattle.index.proofs.Holding.{many-none, many-more-some, many-more-none, found-more, found_all}
 use Rattle.index.proofs.holds.holds.Goals as goal
 
@@ -16,14 +18,14 @@ loop-i-preserved g c =
     let i = c.loop-i.i in
     let v = c.loop-i.invariant in
     elim c.match-record.branch [
-      | goal.in-Some+else-not-finds w ↦
+      | goal.in-Some+else-ne w ↦
           let found : at es w.in-Some.id ≡ Some i = search rules in (
             found-more es id-of i v.0 (λ k e. ap (at es) (sym (same_some (id-of i) w.in-Some.id k w.in-Some.is e)) ∙ found),
             omega (arith, w.ids-is, v.1, many-more-some id-of i w.in-Some.id w.in-Some.is),
             omega (arith, w.ids-is, v.2),
           )
       | goal.in_default w ↦ (
-        found-more es id-of i v.0 (λ k e. absurd (none-some (id-of i) k w.in_default.is e)),
+        found-more es id-of i v.0 (λ k e. absurd (none-some k (sym w.in_default.is ∙ e))),
         omega (arith, w.ids-is, v.1, many-more-none id-of i w.in_default.is),
         omega (arith, w.ids-is, v.2),
       )
@@ -35,4 +37,4 @@ returns g c =
     let rs = c.args.records.now in
     let v = c.loop-i.invariant in
     found_all es (placed rs) c.loop-i.i (g.met.I.Index.once c.args.index.now) (λ i ge. get_or_past rs i None (omega (arith, ge))) v.0
-    c.counts.result c.loop-i.ids v.1 c.counts.ensures
+    _ c.loop-i.ids v.1 (subst (λ n. Decides (eqb n c.loop-i.ids) (length es ≡ c.loop-i.ids)) (sym c.count.ensures) (Decides-eqb (length es) c.loop-i.ids))
