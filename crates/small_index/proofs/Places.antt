@@ -2,16 +2,14 @@
 use Rattle.std.proofs.Common.{◌≡◌, ℕ, suc, ◌+◌, ◌<◌, cond, eqb, List, [], ◌∷◌, ◌++◌, length, get_or, take, is_some, Some, None, Ok, Option, sym, refl, ap, ◌∙◌, subst, inl, inr, arith}
 use Rattle.std.specs.Map.{update}
 use Rattle.std.proofs.lemmas.Cmp.{nat_eq_equiv}
-use Rattle.std.proofs.lemmas.Map.{update_apart}
+use Rattle.std.proofs.lemmas.Map.{update_same, update_apart}
+use Rattle.std.proofs.lemmas.Option.{none-some}
 use Rattle.std.proofs.lemmas.List.{take_more, take_all, length-take-le}
 use Rattle.std.proofs.lemmas.Bool.{cases_eq, eq-eqb, ne_eqb}
 use Rattle.index.specs.declared.entry.Entry.{Entry}
 use Rattle.index.specs.Held.{at, Once, Put, Removed, blank}
-use Rattle.index.proofs.Entries.{none-some, at_here, at-later, once_nil, once_cons, once_tail, once-head}
+use Rattle.index.proofs.Entries.{at_here, at-later, once_nil, once_cons, once_tail, once-head}
 use Rattle.small_index.specs.Standing.{puts, outs, last_first}
-
-update_same : (f : ℕ → Option ℕ) (k : ℕ) (w : Option ℕ) (q : ℕ) → q ≡ k → update eqb f k w q ≡ w
-update_same f k w q x = rw (eq-eqb k q (sym x)) refl
 
 -- ---- a put
 pub at-puts : (es : List Entry) (e : Entry) (q : ℕ) → at (puts es e) q ≡ update eqb (at es) e.id (Some e.number) q
@@ -22,7 +20,7 @@ at-puts (x ∷ es) e q =
       | inl s ↦
           rw (eq-eqb x.id e.id s)
           (elim (cases_eq q e.id) [
-            | inl y ↦ at_here e es q y ∙ sym (update_same (at (x ∷ es)) e.id w q y)
+            | inl y ↦ at_here e es q y ∙ sym (update_same eqb (at (x ∷ es)) e.id w q (eq-eqb e.id q (sym y)))
             | inr ny ↦ at-later e es q ny ∙ sym (at-later x es q (λ z. ny (z ∙ s))) ∙ sym (update_apart (at (x ∷ es)) e.id w q ny)
           ])
       | inr ne ↦
@@ -54,7 +52,7 @@ once-puts (x ∷ es) e o =
 
 -- ---- the last moved before the others
 apart-head : (x : Entry) (es : List Entry) (k : ℕ) → at (x ∷ es) k ≡ None → k ≡ x.id → ⊥
-apart-head x es k n e = none-some (at (x ∷ es) k) x.number n (at_here x es k e)
+apart-head x es k n e = none-some x.number (sym n ∙ (at_here x es k e))
 
 none_tail : (x : Entry) (es : List Entry) (k : ℕ) → at (x ∷ es) k ≡ None → at es k ≡ None
 none_tail x es k n = sym (at-later x es k (apart-head x es k n)) ∙ n
@@ -102,14 +100,14 @@ length_last (y ∷ ys) = ap suc (length-take-le (length ys) (y ∷ ys) (omega ar
 
 -- ---- a removal
 at-outs : (es : List Entry) (k : ℕ) → Once es → (q : ℕ) → at (outs es k) q ≡ update eqb (at es) k None q
-at-outs [] k o q = elim (cases_eq q k) [ inl y ↦ sym (update_same (at []) k None q y) | inr ny ↦ sym (update_apart (at []) k None q ny) ]
+at-outs [] k o q = elim (cases_eq q k) [ inl y ↦ sym (update_same eqb (at []) k None q (eq-eqb k q (sym y))) | inr ny ↦ sym (update_apart (at []) k None q ny) ]
 at-outs (x ∷ es) k o q =
     elim (cases_eq x.id k) [
       | inl s ↦
           rw (eq-eqb x.id k s)
           (at_last es (once_tail x es o) q
           ∙ elim (cases_eq q k) [
-            | inl y ↦ ap (at es) (y ∙ sym s) ∙ once-head x es o ∙ sym (update_same (at (x ∷ es)) k None q y)
+            | inl y ↦ ap (at es) (y ∙ sym s) ∙ once-head x es o ∙ sym (update_same eqb (at (x ∷ es)) k None q (eq-eqb k q (sym y)))
             | inr ny ↦ sym (at-later x es q (λ z. ny (z ∙ s))) ∙ sym (update_apart (at (x ∷ es)) k None q ny)
           ])
       | inr ne ↦

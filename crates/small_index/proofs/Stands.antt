@@ -1,7 +1,6 @@
 -- What stands in a small index after one write to its list.
 use Rattle.std.proofs.Common.{◌≡◌, ℕ, zero, suc, ◌+◌, ◌-◌, ◌<◌, ◌≤◌, List, [], ◌∷◌, ◌++◌, length, get_or, take, set, Some, None, Option, sym, refl, ap, ◌∙◌, subst, add-one, arith, MatchOption}
 use Rattle.std.specs.List.{slice_get}
-use Rattle.std.proofs.lemmas.Option.{slice_get-get_or}
 use Rattle.std.proofs.lemmas.Bool.{eq-eqb, ne_eqb}
 use Rattle.std.proofs.lemmas.List.{length-take-le, get_or-take, take_more_set, take-take}
 use Rattle.index.specs.declared.entry.Entry.{Entry}
@@ -76,25 +75,10 @@ once_after : (o : Option Entry) (xs : List Entry) (n : ℕ) → Once (standing o
 once_after None xs n once = once
 once_after (Some f) xs n once = once_tail f (take n xs) once
 
-nth_none : {X : Type 0} (xs : List X) (n i : ℕ) → n ≤ i → slice_get (take n xs) i ≡ None
-nth_none xs zero i h = refl
-nth_none [] (suc n) i h = refl
-nth_none (x ∷ xs) (suc n) zero h = absurd (omega arith)
-nth_none (x ∷ xs) (suc n) (suc i) h = nth_none xs n i (omega arith)
-
-nth_some : (xs : List Entry) (n i : ℕ) → n ≤ length xs → i < n → slice_get (take n xs) i ≡ Some (get_or xs i blank)
-nth_some xs n i le h =
-    let l : i < length (take n xs) = simp length-take-le (omega arith) in
-    slice_get-get_or (take n xs) i blank l ∙ ap Some (get_or-take n xs i blank h)
-
-nth_list : (xs : List Entry) (n i : ℕ) → n ≤ length xs → (r : Option Entry) → MatchOption r (n ≤ i) (λ e. (i < n) × (e ≡ get_or xs i blank)) → r ≡ slice_get (take n xs) i
-nth_list xs n i le None h = sym (nth_none xs n i h)
-nth_list xs n i le (Some e) h = ap Some h.1 ∙ sym (nth_some xs n i le h.0)
-
 nth_standing : (o : Option Entry) (xs : List Entry) (n p : ℕ) → (o ≡ None → n ≡ 0) → (p ≡ 0 → ⊥) → slice_get (take n xs) (p - 1) ≡ slice_get (standing o xs n) p
-nth_standing o xs n zero packed ne = absurd (ne refl)
-nth_standing None xs n (suc p) packed ne =
-    let z = packed refl in nth_none xs n (suc p - 1) (omega arith) ∙ sym (nth_none xs n (suc p) (omega arith))
+nth_standing None xs n p packed ne =
+    let z = packed refl in ap (λ (m : ℕ). slice_get (take m xs) (p - 1)) z ∙ sym (ap (λ (m : ℕ). slice_get (take m xs) p) z)
+nth_standing (Some f) xs n zero packed ne = absurd (ne refl)
 nth_standing (Some f) xs n (suc p) packed ne =
     let q : suc p - 1 ≡ p = omega arith in ap (λ (i : ℕ). slice_get (take n xs) i) q
 
@@ -106,7 +90,7 @@ module _ (s : SmallSegmentMap) where
   n = s.overflow.len
 
   le : n ≤ length xs
-  le = omega (arith, s.short, s.sized)
+  le = omega (arith, s.overflow.short, s.overflow.sized)
 
   len : length (take n xs) ≡ n
   len = length-take-le n xs le
@@ -114,12 +98,16 @@ module _ (s : SmallSegmentMap) where
   pub once-listed : Once (listed s)
   once-listed = once_after s.first xs n s.once
 
-  pub moved_up : (e : Entry) (ys : List Entry) (m : ℕ) → 0 < n → e ≡ get_or xs (n - 1) blank → ys ≡ xs → m ≡ n - 1 → e ∷ take m ys ≡ last_first (listed s)
-  moved_up e ys m some is items l =
-      left (Some e) items l ∙ ap (λ z. z ∷ take (n - 1) xs) is ∙ up_is xs n le some
+  -- what the last leaves that is taken off the list, and put first
+  pub moved_up : (o : Option Entry) (ys : List Entry) (m : ℕ) → MatchOption o (n ≡ 0) (λ e. (0 < n) × (e ≡ get_or xs (n - 1) blank))
+      → ys ≡ xs → m ≡ n - 1 → standing o ys m ≡ last_first (listed s)
+  moved_up None ys m z items l =
+      left None items l ∙ ap (λ (k : ℕ). take (k - 1) xs) z ∙ sym (ap (λ (k : ℕ). last_first (take k xs)) z)
+  moved_up (Some e) ys m v items l =
+      left (Some e) items l ∙ ap (λ z. z ∷ take (n - 1) xs) v.1 ∙ up_is xs n le v.0
 
-  pub nth_stood : (p : ℕ) (r : Option Entry) → (p ≡ 0 → ⊥) → MatchOption r (n ≤ p - 1) (λ e. (p - 1 < n) × (e ≡ get_or xs (p - 1) blank)) → r ≡ slice_get (stood s) p
-  nth_stood p r ne h = nth_list xs n (p - 1) le r h ∙ nth_standing s.first xs n p s.packed ne
+  pub nth_stood : (p : ℕ) → (p ≡ 0 → ⊥) → slice_get (listed s) (p - 1) ≡ slice_get (stood s) p
+  nth_stood p ne = nth_standing s.first xs n p s.packed ne
 
   module _ (f : Entry) (is : s.first ≡ Some f) where
     stood-is : stood s ≡ f ∷ take n xs
@@ -166,7 +154,7 @@ module _ (s : SmallSegmentMap) where
     put-end e ne none ys m lt items l =
         left s.first items l
         ∙ ap (λ (o : Option Entry). standing o (set xs n e) (n + 1)) is
-        ∙ ap (λ zs. f ∷ zs) (take_more_set xs n e (omega (arith, s.sized)))
+        ∙ ap (λ zs. f ∷ zs) (take_more_set xs n e (omega (arith, s.overflow.sized)))
         ∙ sym (ap (λ es. puts es e) stood-is ∙ puts-miss (f ∷ take n xs) e (absent-at e.id ne none))
 
     -- an id that stands in the list

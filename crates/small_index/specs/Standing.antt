@@ -1,5 +1,5 @@
 -- What stands in a small index, place by place, and how a put and a removal change it.
-use Rattle.std.specs.Prelude.{◌≡◌, ℕ, cond, List, [], ◌∷◌, length, take, Some, None, Option, ◌==◌, slice_index_or}
+use Rattle.std.specs.Prelude.{◌≡◌, ℕ, if◌then◌else◌, List, [], ◌∷◌, length, take, Some, None, Option, ◌==◌, slice_index_or}
 use Rattle.index.specs.declared.entry.Entry.{Entry}
 use Rattle.index.specs.Held.{blank}
 
@@ -11,7 +11,7 @@ standing (Some e) es n = e ∷ take n es
 -- a put leaves the entry in the place of the one with its id, or else at the end
 abbrev pub puts : List Entry → Entry → List Entry
 puts [] e = e ∷ []
-puts (x ∷ es) e = cond (x.id == e.id) (e ∷ es) (x ∷ puts es e)
+puts (x ∷ es) e = if x.id == e.id then e ∷ es else x ∷ puts es e
 
 -- the last, and then the others
 abbrev pub last_first : List Entry → List Entry
@@ -21,7 +21,7 @@ last_first (y ∷ ys) = slice_index_or (y ∷ ys) (length ys) blank ∷ take (le
 -- a removal leaves the last in the place of the one with that id
 abbrev pub outs : List Entry → ℕ → List Entry
 outs [] k = []
-outs (x ∷ es) k = cond (x.id == k) (last_first es) (x ∷ outs es k)
+outs (x ∷ es) k = if x.id == k then last_first es else x ∷ outs es k
 
 -- an id with its number
 abbrev entry : ℕ → ℕ → Entry

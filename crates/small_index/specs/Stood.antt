@@ -19,4 +19,4 @@ standing_fits None es n h = simp length-take (omega arith)
 standing_fits (Some e) es n h = simp length-take (omega arith)
 
 pub stood_fits : (s : SmallSegmentMap) → length (stood s) ≤ 256
-stood_fits s = standing_fits s.first s.overflow.entries s.overflow.len s.short
+stood_fits s = standing_fits s.first s.overflow.entries s.overflow.len s.overflow.short

@@ -1,17 +1,20 @@
 // The places of the small index: a first one, and a list of at most 255.
-ghost use Rattle.std.specs.Prelude.{◌≡◌, ℕ, ◌+◌, ◌-◌, ◌<◌, ◌≤◌, [], length, get_or, None, MatchOption, ◌==◌, ◌≢◌, slice_index_or, slice_set};
+ghost use Rattle.std.specs.Prelude.{◌≡◌, ℕ, ◌+◌, ◌-◌, ◌<◌, ◌≤◌, [], length, None, MatchOption, ◌≢◌, ◌↔◌, IsTrue, slice_get, slice_index_or, slice_set, take};
 ghost use Rattle.index.specs.Held.{blank, Once};
 ghost use Rattle.small_index.specs.Standing.{standing};
 
 use index::entry::Entry;
+use std::mem;
 
 pub mod indexed;
 
-// The list: of its places the first `len` are taken.
+// The list: of its places the first `len` are taken. Its memory is fixed, so it is an array with a count.
 #[derive(Clone, Copy)]
 struct Overflow {
     entries: [Entry; 255],
     len: usize,
+    ghost sized: { length entries ≡ 255 },
+    ghost short: { len ≤ 255 },
 }
 
 impl Overflow {
@@ -25,52 +28,32 @@ impl Overflow {
     }
 
     fn is_full(&self) -> bool
-        ensures { result ≡ (self.now.len == 255) }
+        ensures { IsTrue result ↔ (self.now.len ≡ 255) }
     {
         self.len == 255
     }
 
     fn get(&self, i: usize) -> Option<Entry>
-        requires { self.now.len ≤ 255 }
-        ensures { MatchOption result (self.now.len ≤ i) (λ e. (i < self.now.len) × (e ≡ slice_index_or self.now.entries i blank)) }
+        ensures { result ≡ slice_get (take self.now.len self.now.entries) i }
     {
-        if i < self.len {
-            Some(self.entries[i])
-        } else {
-            None
-        }
+        self.entries[..self.len].get(i).copied()
     }
 
     // The place of an id.
     fn place(&self, id: u64) -> Option<usize>
-        requires { self.now.len ≤ 255 }
-        ensures { MatchOption result ((k : ℕ) → k < self.now.len → (get_or self.now.entries k blank).id ≢ id) (λ i. (i < self.now.len) × ((get_or self.now.entries i blank).id ≡ id)) }
+        ensures { MatchOption result ((k : ℕ) → k < self.now.len → (slice_index_or self.now.entries k blank).id ≢ id) (λ i. (i < self.now.len) × ((slice_index_or self.now.entries i blank).id ≡ id)) }
     {
-        for i in 0..self.len {
-            if self.entries[i].id == id {
-                return Some(i);
-            }
-        }
-        None
-    }
-
-    fn number(&self, i: usize) -> usize
-        requires { (self.now.len ≤ 255) × (i < self.now.len) }
-        ensures { result ≡ (get_or self.now.entries i blank).number }
-    {
-        self.entries[i].number
+        self.entries[..self.len].iter().position(|e| e.id == id)
     }
 
     // Puts an entry where another stands, and returns the other's number.
     fn replace(&mut self, i: usize, new: Entry) -> usize
-        requires { (self.old.len ≤ 255) × (i < self.old.len) }
-        ensures value { result ≡ (get_or self.old.entries i blank).number }
+        requires { i < self.old.len }
+        ensures value { result ≡ (slice_index_or self.old.entries i blank).number }
         ensures items { self.new.entries ≡ slice_set self.old.entries i new }
         ensures len { self.new.len ≡ self.old.len }
     {
-        let old = self.entries[i];
-        self.entries[i] = new;
-        old.number
+        mem::replace(&mut self.entries[i], new).number
     }
 
     fn push(&mut self, new: Entry)
@@ -82,27 +65,27 @@ impl Overflow {
         self.len += 1;
     }
 
-    fn pop(&mut self) -> Entry
-        requires { (0 < self.old.len) × (self.old.len ≤ 255) }
-        ensures value { result ≡ slice_index_or self.old.entries (self.old.len - 1) blank }
+    fn pop(&mut self) -> Option<Entry>
+        ensures value { MatchOption result (self.old.len ≡ 0) (λ e. (0 < self.old.len) × (e ≡ slice_index_or self.old.entries (self.old.len - 1) blank)) }
         ensures items { self.new.entries ≡ self.old.entries }
         ensures len { self.new.len ≡ self.old.len - 1 }
     {
+        let last = *self.entries[..self.len].last()?;
         self.len -= 1;
-        self.entries[self.len]
+        Some(last)
     }
 
     // Takes an entry out, moves the last into its place, and returns the number that was there.
     fn swap_remove(&mut self, i: usize) -> usize
-        requires { (self.old.len ≤ 255) × (i < self.old.len) }
-        ensures value { result ≡ (get_or self.old.entries i blank).number }
+        requires { i < self.old.len }
+        ensures value { result ≡ (slice_index_or self.old.entries i blank).number }
         ensures items { self.new.entries ≡ slice_set self.old.entries i (slice_index_or self.old.entries (self.old.len - 1) blank) }
         ensures len { self.new.len ≡ self.old.len - 1 }
     {
-        let old = self.entries[i];
-        let last = self.pop();
-        self.entries[i] = last;
-        old.number
+        let last = self.entries[self.len - 1];
+        let number = self.replace(i, last);
+        self.len -= 1;
+        number
     }
 }
 
@@ -111,8 +94,6 @@ impl Overflow {
 pub struct SmallSegmentMap {
     first: Option<Entry>,
     overflow: Overflow,
-    ghost sized: { length overflow.entries ≡ 255 },
-    ghost short: { overflow.len ≤ 255 },
     ghost packed: { (first ≡ None → overflow.len ≡ 0) },
     ghost once: { Once (standing first overflow.entries overflow.len) },
 }

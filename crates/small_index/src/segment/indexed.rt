@@ -22,7 +22,7 @@ impl Index for SmallSegmentMap {
             return Some(first.number);
         }
         let i = self.overflow.place(id)?;
-        Some(self.overflow.number(i))
+        Some(self.overflow.entries[i].number)
     }
 
     fn put(&mut self, id: u64, number: usize) -> Result<Option<usize>, Full>
@@ -83,20 +83,19 @@ impl Index for SmallSegmentMap {
 }
 
 impl SmallSegmentMap {
-    // The list's last takes the first place; where the list is empty, the first place becomes so too.
+    // The list's last takes the first place; where the list is empty, the first place becomes so too. Both change, and the
+    // whole is written: a fixed form of this project.
     fn move_up(&mut self)
         ensures { stood self.new ≡ last_first (listed self.old) }
     {
+        // The common case, of one id at a time, copies no list.
         if self.overflow.len == 0 {
             self.first = None;
             return;
         }
         let mut overflow = self.overflow;
-        let last = overflow.pop();
-        *self = SmallSegmentMap {
-            first: Some(last),
-            overflow,
-        };
+        let first = overflow.pop();
+        *self = SmallSegmentMap { first, overflow };
     }
 
     // What stands in a place; place 0 is the first.

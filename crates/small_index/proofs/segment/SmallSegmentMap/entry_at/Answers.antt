@@ -1,5 +1,6 @@
+use Rattle.std.proofs.Common.{◌∙◌}
 use Rattle.small_index.proofs.Stands.{nth_stood}
 use Rattle.small_index.proofs.segment.SmallSegmentMap.entry_at.Goals as goal
 
 pub returns-else-place-eq0 : goal.returns-else-place-eq0
-returns-else-place-eq0 c = nth_stood c.args.self.now c.args.place c.get.result c.if-place-eq0.false c.get.ensures
+returns-else-place-eq0 c = c.get.ensures ∙ nth_stood c.args.self.now c.args.place c.if-place-eq0.false

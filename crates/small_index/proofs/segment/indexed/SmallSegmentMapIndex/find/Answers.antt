@@ -1,4 +1,4 @@
-use Rattle.std.proofs.Common.{Some, sym, ap, ◌∙◌}
+use Rattle.std.proofs.Common.{sym, ◌∙◌}
 use Rattle.small_index.proofs.Stands.{hit_list, miss}
 use Rattle.small_index.proofs.segment.indexed.SmallSegmentMapIndex.find.Goals as goal
 
@@ -10,5 +10,4 @@ returns-in_err-i c =
 pub returns : goal.returns
 returns c =
     let h = c.in_ok-i.ensures in
-    ap Some c.number.ensures
-    ∙ sym (hit_list c.args.self.now c.in_ok-first.first c.in_ok-first.was c.in_ok-i.i c.args.id h.0 h.1)
+    sym (hit_list c.args.self.now c.in_ok-first.first c.in_ok-first.was c.in_ok-i.i c.args.id h.0 h.1)

@@ -1,7 +1,5 @@
-use Rattle.std.proofs.Common.{◌-◌, length, get_or, Some, sym, refl, ap, ◌∙◌, arith}
-use Rattle.std.proofs.lemmas.List.{length-set}
-use Rattle.index.specs.Held.{blank}
-use Rattle.index.proofs.Entries.{none-some}
+use Rattle.std.proofs.Common.{Some, sym, refl, ap, ◌∙◌}
+use Rattle.std.proofs.lemmas.Option.{none-some}
 use Rattle.small_index.specs.Stood.{stood}
 use Rattle.small_index.proofs.Places.{outs-once, outs_means}
 use Rattle.small_index.proofs.Stands.{hit-first, hit_list, miss, out_none, out_first, out_list}
@@ -15,7 +13,7 @@ returns-then-first-id c =
     let is = c.move_up.ensures ∙ out_first s f first c.args.id c.if-first-id.true in
     record {
       cases = outs_means (stood s) _ s.once c.args.id (Some f.number) is (sym (hit-first s f first c.args.id c.if-first-id.true));
-      same = λ n. absurd (none-some _ _ n refl);
+      same = λ n. absurd (none-some _ (sym n));
       capacity = refl;
       places = is;
     }
@@ -35,18 +33,13 @@ returns-in_err-i c =
       places = is;
     }
 
-pub invariant_of-self : goal.invariant_of-self
-invariant_of-self c =
+pub invariant_of-self-clause-once : goal.invariant_of-self-clause-once
+invariant_of-self-clause-once c =
     let s = c.args.self.now in
     let h = c.in_ok-i.ensures in
     let a = c.swap_remove.ensures in
-    let is = out_list s c.in_ok-first.first c.in_ok-first.was c.in_ok-i.i c.args.id h.0 h.1 c.swap_remove.new.self.entries c.swap_remove.new.self.len a.items a.len in
-    record {
-      sized = ap length a.items ∙ length-set s.overflow.entries c.in_ok-i.i (get_or s.overflow.entries (s.overflow.len - 1) blank) ∙ s.sized;
-      short = omega (arith, s.short, a.len);
-      packed = λ n. absurd (none-some _ _ n c.in_ok-first.was);
-      once = outs-once (stood s) _ s.once c.args.id is;
-    }
+    outs-once (stood s) _ s.once c.args.id
+    (out_list s c.in_ok-first.first c.in_ok-first.was c.in_ok-i.i c.args.id h.0 h.1 c.swap_remove.new.self.entries c.swap_remove.new.self.len a.items a.len)
 
 pub returns : goal.returns
 returns c =
@@ -57,7 +50,7 @@ returns c =
     let former = ap Some a.value ∙ sym (hit_list s c.in_ok-first.first c.in_ok-first.was c.in_ok-i.i c.args.id h.0 h.1) in
     record {
       cases = outs_means (stood s) _ s.once c.args.id (Some c.swap_remove.result) is former;
-      same = λ n. absurd (none-some _ _ n refl);
+      same = λ n. absurd (none-some _ (sym n));
       capacity = refl;
       places = is;
     }
