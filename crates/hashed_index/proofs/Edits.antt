@@ -8,7 +8,8 @@ use Rattle.index.specs.Held.{at, Put, Removed}
 use Rattle.hashed_index.specs.declared.probe.Spot.TheVariants.{At, Free}
 use Rattle.hashed_index.specs.Spots.{Spotted}
 use Rattle.hashed_index.specs.Places.{dist, Taken, Alone, Reached, Nearly, Missing, kept}
-use Rattle.index.proofs.Entries.{none-some, same_some}
+use Rattle.std.proofs.lemmas.Option.{none-some}
+use Rattle.index.proofs.Entries.{same_some}
 use Rattle.hashed_index.proofs.Seeks.{within}
 use Rattle.hashed_index.specs.Keeps.{kept-is, kept-missing, kept_update, kept_fill, kept_swap, kept-drop, spot_at}
 
@@ -23,10 +24,10 @@ free-kept zero = refl
 free-kept (suc n) = free-kept n
 
 pub free_alone : (n : ℕ) → Alone (replicate n None)
-free_alone n i j w = absurd (none-some (get_or (replicate n None) i None) w.0 (free-read n i) w.1)
+free_alone n i j w = absurd (none-some w.0 (sym (free-read n i) ∙ w.1))
 
 pub free-reached : (n : ℕ) → Reached (replicate n None)
-free-reached n p b w = absurd (none-some (get_or (replicate n None) p None) w.0 (free-read n p) w.1)
+free-reached n p b w = absurd (none-some w.0 (sym (free-read n p) ∙ w.1))
 
 -- a fact about places with one write, told by the length before
 sized : (ps : List (Option Entry)) (i : ℕ) (v : Option Entry) (p b : ℕ) (k : ℕ) (Q : Type 0)
@@ -140,7 +141,7 @@ module _ (ps : List (Option Entry)) (i : ℕ) (e : Entry) (hi : i < length ps) (
   fill_at =
       kept_update ps (set ps i (Some e)) e.id (Some e.number) fill_alone
       (λ j x s ne. elim (cases_eq j i) [
-        | inl q ↦ absurd (none-some (get_or ps i None) x free (ap (λ (z : ℕ). get_or ps z None) (sym q) ∙ s))
+        | inl q ↦ absurd (none-some x (sym free ∙ (ap (λ (z : ℕ). get_or ps z None) (sym q) ∙ s)))
         | inr o ↦ (j, get_or-set_other ps i j (Some e) None o ∙ s)
       ])
       (λ j x s ne. elim (old j x s) [ inl a ↦ absurd (ne (ap (λ (z : Entry). z.id) a.1)) | inr a ↦ (j, a.1) ])
@@ -154,7 +155,7 @@ module _ (ps : List (Option Entry)) (i : ℕ) (f : Entry) (is : get_or ps i None
   left : (j : ℕ) (x : Entry) → get_or (set ps i None) j None ≡ Some x → (j ≡ i → ⊥) × (get_or ps j None ≡ Some x)
   left j x s =
       elim (cases_eq j i) [
-        | inl q ↦ absurd (none-some (get_or (set ps i None) i None) x drop-free (ap (λ (z : ℕ). get_or (set ps i None) z None) (sym q) ∙ s))
+        | inl q ↦ absurd (none-some x (sym drop-free ∙ (ap (λ (z : ℕ). get_or (set ps i None) z None) (sym q) ∙ s)))
         | inr ne ↦ (ne, sym (get_or-set_other ps i j None None ne) ∙ s)
       ]
 
@@ -183,55 +184,50 @@ pub none_only : (Q : Option Entry → Type 0) → ((x : Entry) → Q (Some x) �
 none_only Q no' None h = refl
 none_only Q no' (Some x) h = absurd (no' x h)
 
-pub some_is : {A : Type 0} (o : Option A) → is_some o ≡ true → (x : A) × (o ≡ Some x)
-some_is None t = absurd (both_ways false refl t)
-some_is (Some x) t = (x, refl)
-
 -- ---- what the contracts ask
-module _ (ps qs : List (Option Entry)) (k n : ℕ) (alone : Alone ps) (reached : Reached ps) where
+module _ (ps : List (Option Entry)) (k n : ℕ) (alone : Alone ps) (reached : Reached ps) where
   abbrev new_entry : Entry
   new_entry = record { id = k; number = n }
 
   -- a put of an id that is held
-  module _ (i m : ℕ) (spot : Spotted ps k (At i m)) (is : qs ≡ set ps i (Some new_entry)) where
+  module _ (i m : ℕ) (spot : Spotted ps k (At i m)) where
     abbrev old_entry : Entry
     old_entry = record { id = k; number = m }
 
-    pub put_over : (length qs ≡ length ps) × Alone qs × Reached qs
+    pub put_over : Alone (set ps i (Some new_entry)) × Reached (set ps i (Some new_entry))
     put_over = (
-      ap length is ∙ length-set ps i (Some new_entry),
-      subst Alone (sym is) (over_alone ps i new_entry old_entry spot.1 refl alone reached),
-      subst Reached (sym is) (over_reached ps i new_entry old_entry spot.1 refl alone reached),
+      over_alone ps i new_entry old_entry spot.1 refl alone reached,
+      over_reached ps i new_entry old_entry spot.1 refl alone reached,
     )
 
-    pub over_means : (room : ℕ) → Put (kept ps) (kept qs) room k n (Ok (Some m))
+    pub over_means : (room : ℕ) → Put (kept ps) (kept (set ps i (Some new_entry))) room k n (Ok (Some m))
     over_means room = (
       sym (spot_at ps k i m alone spot),
-      λ q. ap (λ z. at (kept z) q) is ∙ over_at ps i new_entry old_entry spot.1 refl alone reached q,
-      omega (arith, ap (λ z. length (kept z)) is, kept_swap ps i new_entry old_entry spot.1),
+      over_at ps i new_entry old_entry spot.1 refl alone reached,
+      omega (arith, kept_swap ps i new_entry old_entry spot.1),
     )
 
   -- a put of an id that is not held
-  module _ (i : ℕ) (spot : Spotted ps k (Free i)) (is : qs ≡ set ps i (Some new_entry)) where
-    pub put-free : (length qs ≡ length ps) × Alone qs × Reached qs
+  module _ (i : ℕ) (spot : Spotted ps k (Free i)) where
+    pub put-free : Alone (set ps i (Some new_entry)) × Reached (set ps i (Some new_entry))
     put-free = (
-      ap length is ∙ length-set ps i (Some new_entry),
-      subst Alone (sym is) (fill_alone ps i new_entry spot.0 spot.1 spot.2 spot.3 alone reached),
-      subst Reached (sym is) (fill_reached ps i new_entry spot.0 spot.1 spot.2 spot.3 alone reached),
+      fill_alone ps i new_entry spot.0 spot.1 spot.2 spot.3 alone reached,
+      fill_reached ps i new_entry spot.0 spot.1 spot.2 spot.3 alone reached,
     )
 
-    pub free_means : (room : ℕ) → Put (kept ps) (kept qs) room k n (Ok None)
+    pub free_means : (room : ℕ) → Put (kept ps) (kept (set ps i (Some new_entry))) room k n (Ok None)
     free_means room = (
       sym (kept-missing ps k spot.2),
-      λ q. ap (λ z. at (kept z) q) is ∙ fill_at ps i new_entry spot.0 spot.1 spot.2 spot.3 alone reached q,
-      omega (arith, ap (λ z. length (kept z)) is, kept_fill ps i new_entry spot.0 spot.1),
+      fill_at ps i new_entry spot.0 spot.1 spot.2 spot.3 alone reached,
+      omega (arith, kept_fill ps i new_entry spot.0 spot.1),
     )
 
-pub out_means : (ps qs : List (Option Entry)) (i : ℕ) (e : Entry) → Alone ps → Reached ps → get_or ps i None ≡ Some e
-    → ((q : ℕ) → at (kept qs) q ≡ at (kept (set ps i None)) q) → length (kept qs) ≡ length (kept (set ps i None))
-    → Removed (kept ps) (kept qs) e.id (Some e.number)
-out_means ps qs i e alone reached is same len = (
-  sym (kept-is ps i e alone is),
-  λ q. same q ∙ drop_at ps i e is alone reached q,
-  omega (arith, len, kept-drop ps i e is),
-)
+-- what is left in place of the places qs, in which the place i was made free
+pub out_means : (ps qs ws : List (Option Entry)) (i k n : ℕ) → Alone ps → Reached ps → Spotted ps k (At i n) → qs ≡ set ps i None
+    → ((q : ℕ) → at (kept ws) q ≡ at (kept qs) q) → length (kept ws) ≡ length (kept qs) → Removed (kept ps) (kept ws) k (Some n)
+out_means ps qs ws i k n alone reached spot is same len =
+    let e : Entry = record { id = k; number = n } in (
+      sym (kept-is ps i e alone spot.1),
+      λ q. same q ∙ ap (λ z. at (kept z) q) is ∙ drop_at ps i e spot.1 alone reached q,
+      omega (arith, len, ap (λ z. length (kept z)) is, kept-drop ps i e spot.1),
+    )

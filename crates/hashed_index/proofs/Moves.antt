@@ -6,7 +6,8 @@ use Rattle.index.specs.declared.entry.Entry.{Entry}
 use Rattle.index.specs.Held.{at}
 use Rattle.hashed_index.specs.Places.{dist, Taken, Alone, Nearly, kept}
 use Rattle.hashed_index.proofs.Rounds.{dist_zero, dist-back}
-use Rattle.index.proofs.Entries.{none-some, same_some}
+use Rattle.std.proofs.lemmas.Option.{none-some}
+use Rattle.index.proofs.Entries.{same_some}
 use Rattle.hashed_index.specs.Keeps.{kept_same, kept_fill, kept-drop}
 
 -- how far an entry at the place p is from where its search starts
@@ -81,7 +82,7 @@ module _ (ps : List (Option Entry)) (h j : ℕ) (e : Entry) (is : get_or ps j No
             (j, is ∙ ap Some q, inl (y, refl, sym q))
         | inr y ↦
             elim (cases_eq i j) [
-              | inl z ↦ absurd (none-some (get_or qs i None) x (ap (λ (w : ℕ). get_or qs w None) z ∙ moved-free) s)
+              | inl z ↦ absurd (none-some x (sym (ap (λ (w : ℕ). get_or qs w None) z ∙ moved-free) ∙ s))
               | inr z ↦ (i, sym (read-other i y z) ∙ s, inr (refl, y, z))
             ]
       ]
@@ -92,7 +93,7 @@ module _ (ps : List (Option Entry)) (h j : ℕ) (e : Entry) (is : get_or ps j No
         | inl y ↦ (h, read_h ∙ ap Some (same_some (get_or ps j None) e x is (ap (λ (z : ℕ). get_or ps z None) (sym y) ∙ s)))
         | inr y ↦
             elim (cases_eq i h) [
-              | inl z ↦ absurd (none-some (get_or ps i None) x (ap (λ (w : ℕ). get_or ps w None) z ∙ free) s)
+              | inl z ↦ absurd (none-some x (sym (ap (λ (w : ℕ). get_or ps w None) z ∙ free) ∙ s))
               | inr z ↦ (i, read-other i z y ∙ s)
             ]
       ]

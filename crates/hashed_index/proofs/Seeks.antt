@@ -4,7 +4,8 @@ use Rattle.std.proofs.lemmas.List.{get_or_past}
 use Rattle.std.proofs.lemmas.Bool.{cases_eq, cases_order, cases_lt, both_ways}
 use Rattle.index.specs.declared.entry.Entry.{Entry}
 use Rattle.hashed_index.specs.Places.{dist, Taken, Reached, Nearly, Missing}
-use Rattle.index.proofs.Entries.{none-some, same_some}
+use Rattle.std.proofs.lemmas.Option.{none-some}
+use Rattle.index.proofs.Entries.{same_some}
 use Rattle.hashed_index.proofs.Rounds.{dist_lt, dist_self, dist_inj, dist_via, dist-back}
 
 pub none-taken : (ps : List (Option Entry)) (i : ℕ) → get_or ps i None ≡ None → Taken ps i → ⊥
@@ -12,7 +13,7 @@ none-taken ps i n t = both_ways (is_some (get_or ps i None)) (ap is_some n) t
 
 pub within : (ps : List (Option Entry)) (i : ℕ) (e : Entry) → get_or ps i None ≡ Some e → i < length ps
 within ps i e h =
-    elim (cases_lt i (length ps)) [ inl lt ↦ lt | inr ge ↦ absurd (none-some (get_or ps i None) e (get_or_past ps i None ge) h) ]
+    elim (cases_lt i (length ps)) [ inl lt ↦ lt | inr ge ↦ absurd (none-some e (sym (get_or_past ps i None ge) ∙ h)) ]
 
 module _ (ps : List (Option Entry)) (some : 0 < length ps) (k : ℕ) where
   abbrev pub Passed : ℕ → Type 0
@@ -37,7 +38,7 @@ module _ (ps : List (Option Entry)) (some : 0 < length ps) (k : ℕ) where
       elim (cases_order (dist (length ps) (k % length ps) j) s) [
         | inl x ↦
             let y : j ≡ i = dist_inj (length ps) (k % length ps) j i hk hj hi (omega arith) in
-            none-some (get_or ps i None) e free (ap (λ (z : ℕ). get_or ps z None) (sym y) ∙ is)
+            none-some e (sym free ∙ (ap (λ (z : ℕ). get_or ps z None) (sym y) ∙ is))
         | inr o ↦ elim o [
           | inl lt ↦ (p j hj lt).1 e is r
           | inr gt ↦
@@ -95,7 +96,7 @@ module _ (ps : List (Option Entry)) (h : ℕ) (hh : h < length ps) (free : get_o
                   elim (cases_order (dist (length ps) h p) s) [
                     | inl q ↦
                         let y : p ≡ j.0 = dist_inj (length ps) h p j.0 hh hp j.1 (omega (arith, j.2)) in
-                        none-some (get_or ps p None) e (ap (λ (z : ℕ). get_or ps z None) y ∙ j.4) v.1
+                        none-some e (sym (ap (λ (z : ℕ). get_or ps z None) y ∙ j.4) ∙ v.1)
                     | inr o ↦ elim o [
                       | inl l ↦ no-fine l
                       | inr gt ↦

@@ -6,13 +6,14 @@ use Rattle.std.proofs.lemmas.Bool.{cases_eq, eq-eqb, ne_eqb, both_ways}
 use Rattle.index.specs.declared.entry.Entry.{Entry}
 use Rattle.index.specs.Held.{at, Once}
 use Rattle.hashed_index.specs.Places.{Taken, Alone, Missing, kept}
-use Rattle.index.proofs.Entries.{none-some, same_some, once_nil, once_cons}
+use Rattle.std.proofs.lemmas.Option.{none-some}
+use Rattle.index.proofs.Entries.{same_some, once_nil, once_cons}
 use Rattle.hashed_index.specs.declared.probe.Spot.{Spot}
 use Rattle.hashed_index.specs.declared.probe.Spot.TheVariants.{At, Free, Nowhere}
 use Rattle.hashed_index.specs.Spots.{Spotted}
 
 missing-none : (ps : List (Option Entry)) (k : ℕ) → Missing ps k → Missing (None ∷ ps) k
-missing-none ps k m zero e is r = none-some None e refl is
+missing-none ps k m zero e is r = none-some e is
 missing-none ps k m (suc i) e is r = m i e is r
 
 missing-some : (x : Entry) (ps : List (Option Entry)) (k : ℕ) → (k ≢ x.id) → Missing ps k → Missing (Some x ∷ ps) k
@@ -23,7 +24,7 @@ abbrev pub Found : List (Option Entry) → ℕ → Type 0
 Found ps k = (i : ℕ) × (e : Entry) × (slice_index_or ps i None ≡ Some e) × (e.id ≡ k) × (at (kept ps) k ≡ Some e.number)
 
 pub kept_where : (ps : List (Option Entry)) (k : ℕ) → ((at (kept ps) k ≡ None) × Missing ps k) ⊎ Found ps k
-kept_where [] k = inl (refl, λ i e is r. none-some None e refl is)
+kept_where [] k = inl (refl, λ i e is r. none-some e is)
 kept_where (None ∷ ps) k =
     elim (kept_where ps k) [
       | inl w ↦ inl (w.0, missing-none ps k w.1)
@@ -80,20 +81,20 @@ kept-all (Some e ∷ ps) h = ap suc (kept-all ps (λ b l. h (suc b) (omega arith
 pub kept_fill : (ps : List (Option Entry)) (i : ℕ) (e : Entry) → i < length ps → slice_index_or ps i None ≡ None → length (kept (slice_set ps i (Some e))) ≡ length (kept ps) + 1
 kept_fill [] i e h n = omega arith
 kept_fill (None ∷ ps) zero e h n = omega arith
-kept_fill (Some x ∷ ps) zero e h n = absurd (none-some (Some x) x n refl)
+kept_fill (Some x ∷ ps) zero e h n = absurd (none-some x (sym n))
 kept_fill (None ∷ ps) (suc i) e h n = kept_fill ps i e (omega arith) n
 kept_fill (Some x ∷ ps) (suc i) e h n = omega (arith, kept_fill ps i e (omega arith) n)
 
 pub kept_swap : (ps : List (Option Entry)) (i : ℕ) (e f : Entry) → slice_index_or ps i None ≡ Some f → length (kept (slice_set ps i (Some e))) ≡ length (kept ps)
-kept_swap [] i e f n = absurd (none-some None f refl n)
-kept_swap (None ∷ ps) zero e f n = absurd (none-some None f refl n)
+kept_swap [] i e f n = absurd (none-some f n)
+kept_swap (None ∷ ps) zero e f n = absurd (none-some f n)
 kept_swap (Some x ∷ ps) zero e f n = refl
 kept_swap (None ∷ ps) (suc i) e f n = kept_swap ps i e f n
 kept_swap (Some x ∷ ps) (suc i) e f n = ap suc (kept_swap ps i e f n)
 
 pub kept-drop : (ps : List (Option Entry)) (i : ℕ) (f : Entry) → slice_index_or ps i None ≡ Some f → length (kept (slice_set ps i None)) + 1 ≡ length (kept ps)
-kept-drop [] i f n = absurd (none-some None f refl n)
-kept-drop (None ∷ ps) zero f n = absurd (none-some None f refl n)
+kept-drop [] i f n = absurd (none-some f n)
+kept-drop (None ∷ ps) zero f n = absurd (none-some f n)
 kept-drop (Some x ∷ ps) zero f n = omega arith
 kept-drop (None ∷ ps) (suc i) f n = kept-drop ps i f n
 kept-drop (Some x ∷ ps) (suc i) f n = omega (arith, kept-drop ps i f n)

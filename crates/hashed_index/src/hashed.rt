@@ -2,15 +2,17 @@
 ghost use Rattle.std.specs.Prelude.{◌≡◌, ◌<◌, ◌≤◌, true, [], length, IfOk, IfErr, vec_len};
 ghost use Rattle.hashed_index.specs.Places.{Alone, Reached, kept};
 ghost use Rattle.hashed_index.specs.Making.{in_range, told, wanting};
+ghost use Rattle.hashed_index.specs.Spots.{Spotted};
+ghost use Rattle.hashed_index.specs.declared.hashed.MakeError.TheVariants.{Memory};
 ghost use Rattle.hashed_index.specs.Keeps.{kept-once, kept_fits};
 
-use crate::probe::{Spot, empty, seek, take_out, write};
+use crate::probe::{Spot, along, settle, start};
 use index::Index;
 use index::entry::{Entry, Full};
-use std::alloc::Global;
+use std::alloc::{AllocError, Global};
 
 // Why an index was not made: the number of places is out of range, or there is no memory for them.
-#[derive(Clone, Copy)]
+#[derive(Clone, Copy, PartialEq, Eq, Debug)]
 pub enum MakeError {
     Places,
     Memory,
@@ -41,10 +43,13 @@ pub struct HashedIndex {
     ghost counted: { taken ≡ length (kept places.items) },
 }
 
-fn in_range(places: usize) -> bool
-    ensures { result ≡ in_range places }
-{
-    places > 0 && places <= 65536
+// There is no memory for the places.
+impl From<AllocError> for MakeError {
+    ghost from_gives = { λ _ e. e ≡ Memory };
+
+    fn from(_e: AllocError) -> MakeError {
+        MakeError::Memory
+    }
 }
 
 impl HashedIndex {
@@ -52,13 +57,31 @@ impl HashedIndex {
         ensures made { IfOk result (λ i. (in_range places ≡ true) × (kept i.places.items ≡ []) × (vec_len i.places ≡ places)) }
         ensures refused { IfErr result (λ e. told e ≡ wanting places) }
     {
-        if !in_range(places) {
+        if !(1..=65536).contains(&places) {
             return Err(MakeError::Places);
         }
-        let Ok(places) = vec![in heap; None; places] else {
-            return Err(MakeError::Memory);
-        };
+        let places = vec![in heap; None; places]?;
         Ok(HashedIndex { places, taken: 0 })
+    }
+
+    // Where an id stands: looked for from the id modulo the number of places, on round the end.
+    fn seek(&self, id: u64) -> Spot
+        ensures { Spotted self.now.places.items id result }
+    {
+        let n = self.places.len();
+        let from = start(n, id);
+        for step in 0..n {
+            let i = along(n, from, step);
+            match self.places[i] {
+                None => return Spot::Free(i),
+                Some(e) => {
+                    if e.id == id {
+                        return Spot::At(i, e.number);
+                    }
+                }
+            }
+        }
+        Spot::Nowhere
     }
 }
 
@@ -70,21 +93,21 @@ impl Index for HashedIndex {
     ghost fits = { λ s. kept_fits s.places.items (vec_len s.places) s.long };
 
     fn find(&self, id: u64) -> Option<usize> {
-        match seek(self.places.as_slice(), id) {
+        match self.seek(id) {
             Spot::At(_, number) => Some(number),
             _ => None,
         }
     }
 
     fn put(&mut self, id: u64, number: usize) -> Result<Option<usize>, Full> {
-        let new = Entry { id, number };
-        match seek(self.places.as_slice(), id) {
+        let new = Some(Entry { id, number });
+        match self.seek(id) {
             Spot::At(i, former) => {
-                write(self.places.as_mut_slice(), i, Some(new));
+                self.places[i] = new;
                 Ok(Some(former))
             }
             Spot::Free(i) => {
-                write(self.places.as_mut_slice(), i, Some(new));
+                self.places[i] = new;
                 self.taken += 1;
                 Ok(None)
             }
@@ -93,9 +116,10 @@ impl Index for HashedIndex {
     }
 
     fn remove(&mut self, id: u64) -> Option<usize> {
-        match seek(self.places.as_slice(), id) {
+        match self.seek(id) {
             Spot::At(i, former) => {
-                take_out(self.places.as_mut_slice(), i);
+                self.places[i] = None;
+                settle(self.places.as_mut_slice(), i);
                 self.taken -= 1;
                 Some(former)
             }
@@ -104,7 +128,7 @@ impl Index for HashedIndex {
     }
 
     fn clear(&mut self) {
-        empty(self.places.as_mut_slice());
+        self.places.as_mut_slice().fill(None);
         self.taken = 0;
     }
 

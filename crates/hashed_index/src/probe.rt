@@ -1,4 +1,4 @@
-// Search, write and removal in the places of a hashed index.
+// The way round the places of a hashed index, and what a removal moves there.
 ghost use Rattle.std.specs.Prelude.{◌≡◌, ℕ, ◌%◌, ◌<◌, ◌≤◌, length, replicate, Some, None, MatchOption, slice_index_or, slice_set};
 ghost use Rattle.index.specs.declared.entry.Entry.{Entry as Pair};
 ghost use Rattle.index.specs.Held.{at, Removed};
@@ -17,24 +17,24 @@ pub(crate) enum Spot {
 
 // The steps from one of `n` places to another, round the end.
 fn gap(n: usize, from: usize, to: usize) -> usize
-    requires { (n ≤ 65536) × ((from < n) × (to < n)) }
+    requires { (from < n) × (to < n) }
     ensures { result ≡ dist n from to }
 {
-    if from <= to { to - from } else { to + n - from }
+    if from <= to { to - from } else { n - from + to }
 }
 
 // The place that many steps on.
-fn along(n: usize, from: usize, steps: usize) -> usize
-    requires { (n ≤ 65536) × ((from < n) × (steps < n)) }
+pub(crate) fn along(n: usize, from: usize, steps: usize) -> usize
+    requires { (from < n) × (steps < n) }
     ensures within { result < n }
     ensures value { dist n from result ≡ steps }
 {
-    let on = from + steps;
-    if on < n { on } else { on - n }
+    let to_end = n - from;
+    if steps < to_end { from + steps } else { steps - to_end }
 }
 
 // The place from which an id is looked for.
-fn start(n: usize, id: u64) -> usize
+pub(crate) fn start(n: usize, id: u64) -> usize
     requires { 0 < n }
     ensures within { result < n }
     ensures value { result ≡ id % n }
@@ -42,59 +42,8 @@ fn start(n: usize, id: u64) -> usize
     (id % n as u64) as usize
 }
 
-pub(crate) fn seek(places: &[Option<Entry>], id: u64) -> Spot
-    requires some { 0 < length places.now }
-    requires few { length places.now ≤ 65536 }
-    requires reached { Reached places.now }
-    ensures { Spotted places.now id result }
-{
-    let n = places.len();
-    let from = start(n, id);
-    for step in 0..n {
-        let i = along(n, from, step);
-        match places[i] {
-            None => return Spot::Free(i),
-            Some(e) => {
-                if e.id == id {
-                    return Spot::At(i, e.number);
-                }
-            }
-        }
-    }
-    Spot::Nowhere
-}
-
-pub(crate) fn write(places: &mut [Option<Entry>], i: usize, entry: Option<Entry>)
-    requires { i < length places.old }
-    ensures { places.new ≡ slice_set places.old i entry }
-{
-    places[i] = entry;
-}
-
-// Frees all places.
-pub(crate) fn empty(places: &mut [Option<Entry>])
-    ensures { places.new ≡ replicate (length places.old) None }
-{
-    places.fill(None);
-}
-
-// Frees a place, and leaves every other id where it is found.
-pub(crate) fn take_out(places: &mut [Option<Entry>], i: usize)
-    requires few { length places.old ≤ 65536 }
-    requires taken { Taken places.old i }
-    requires alone { Alone places.old }
-    requires reached { Reached places.old }
-    ensures alone { Alone places.new }
-    ensures reached { Reached places.new }
-    ensures cases { (e : Pair) → slice_index_or places.old i None ≡ Some e → Removed (kept places.old) (kept places.new) e.id (Some e.number) }
-{
-    write(places, i, None);
-    settle(places, i);
-}
-
 // An entry that a search would not reach across the free place `hole`.
 fn cut_off(places: &[Option<Entry>], hole: usize) -> Option<usize>
-    requires few { length places.now ≤ 65536 }
     requires within { hole < length places.now }
     requires free { slice_index_or places.now hole None ≡ None }
     requires nearly { Nearly places.now hole }
@@ -117,8 +66,7 @@ fn cut_off(places: &[Option<Entry>], hole: usize) -> Option<usize>
 }
 
 // Moves entries back over a free place until every search reaches its entry.
-fn settle(places: &mut [Option<Entry>], mut hole: usize)
-    requires few { length places.old ≤ 65536 }
+pub(crate) fn settle(places: &mut [Option<Entry>], mut hole: usize)
     requires within { hole < length places.old }
     requires free { slice_index_or places.old hole None ≡ None }
     requires nearly { Nearly places.old hole }

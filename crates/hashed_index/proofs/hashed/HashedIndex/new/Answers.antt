@@ -1,30 +1,22 @@
-use Rattle.std.proofs.Common.{ltb, leb, length, None, sym, ap, ◌∙◌, subst, arith}
+use Rattle.std.proofs.Common.{length, None, sym, ap, ◌∙◌, subst, arith}
+use Rattle.std.specs.Range.{range_inclusive_start, range_inclusive_end}
 use Rattle.std.proofs.lemmas.List.{length-replicate}
-use Rattle.std.proofs.lemmas.Bool.{and_parts, ltb-true, leb-true}
+use Rattle.std.proofs.lemmas.Map.Keys.{le_from_is_le}
 use Rattle.hashed_index.specs.Places.{Alone, Reached, kept}
 use Rattle.hashed_index.proofs.Edits.{none_only, free_alone, free-reached, free-kept}
 use Rattle.hashed_index.proofs.hashed.HashedIndex.new.Goals as goal
 
 pub invariant_of-result : goal.invariant_of-result
 invariant_of-result c =
-    let v = c.in-Ok.ensures in
+    let v = c.in_ok-places.ensures in
     let is = v.items_if_clones_equal (none_only _ (λ x q. q)) in
     let n = c.args.places in
-    let len = v.len in
-    let range = and_parts (ltb 0 n) (leb n 65536) (sym c.if-not-in_range.ensures) in
+    let range = c.if-not-contains.ensures.cases in
     record {
-      some = omega (arith, len, ltb-true 0 n range.0);
-      few = omega (arith, len, leb-true n 65536 range.1);
-      long = ap length is ∙ length-replicate n None ∙ sym len;
+      some = omega (arith, v.len, c.new.ensures.start, le_from_is_le (range_inclusive_start c.new.result) n range.0);
+      few = omega (arith, v.len, c.new.ensures.end, le_from_is_le n (range_inclusive_end c.new.result) range.1);
+      long = ap length is ∙ length-replicate n None ∙ sym v.len;
       alone = subst Alone (sym is) (free_alone n);
       reached = subst Reached (sym is) (free-reached n);
       counted = sym (ap (λ ps. length (kept ps)) is ∙ ap length (free-kept n));
-    }
-
-pub returns : goal.returns
-returns c =
-    let v = c.in-Ok.ensures in
-    record {
-      made = (sym c.if-not-in_range.ensures, ap kept (v.items_if_clones_equal (none_only _ (λ x q. q))) ∙ free-kept c.args.places, v.len);
-      refused = tt;
     }
