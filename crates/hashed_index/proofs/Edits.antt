@@ -1,8 +1,8 @@
 -- What one write to the places does.
-use Rattle.std.proofs.Common.{◌≡◌, ℕ, zero, suc, ◌%◌, ◌<◌, true, false, eqb, ◌⊎◌, List, [], length, get_or, set, replicate, is_some, Some, None, Ok, Option, sym, refl, ap, ◌∙◌, subst, inl, inr, arith}
+use Rattle.std.proofs.Common.{◌≡◌, ℕ, zero, suc, ◌%◌, ◌<◌, eqb, ◌⊎◌, List, [], length, get_or, set, replicate, is_some, Some, None, Ok, Option, sym, refl, ap, ◌∙◌, subst, inl, inr, arith}
 use Rattle.std.specs.Map.{update}
-use Rattle.std.proofs.lemmas.List.{length-set, get_or-set_same, get_or-set_other}
-use Rattle.std.proofs.lemmas.Bool.{cases_eq, both_ways}
+use Rattle.std.proofs.lemmas.List.{length-set, length-replicate, get_or-set_same, get_or-set_other}
+use Rattle.std.proofs.lemmas.Bool.{cases_eq}
 use Rattle.index.specs.declared.entry.Entry.{Entry}
 use Rattle.index.specs.Held.{at, Put, Removed}
 use Rattle.hashed_index.specs.declared.probe.Spot.TheVariants.{At, Free}
@@ -14,7 +14,7 @@ use Rattle.hashed_index.proofs.Seeks.{within}
 use Rattle.hashed_index.specs.Keeps.{kept-is, kept-missing, kept_update, kept_fill, kept_swap, kept-drop, spot_at}
 
 -- ---- places that are all free
-pub free-read : (n i : ℕ) → get_or (replicate {A = Option Entry} n None) i None ≡ None
+free-read : (n i : ℕ) → get_or (replicate {A = Option Entry} n None) i None ≡ None
 free-read zero i = refl
 free-read (suc n) zero = refl
 free-read (suc n) (suc i) = free-read n i
@@ -23,11 +23,19 @@ pub free-kept : (n : ℕ) → kept (replicate n None) ≡ []
 free-kept zero = refl
 free-kept (suc n) = free-kept n
 
-pub free_alone : (n : ℕ) → Alone (replicate n None)
+free_alone : (n : ℕ) → Alone (replicate n None)
 free_alone n i j w = absurd (none-some w.0 (sym (free-read n i) ∙ w.1))
 
-pub free-reached : (n : ℕ) → Reached (replicate n None)
+free-reached : (n : ℕ) → Reached (replicate n None)
 free-reached n p b w = absurd (none-some w.0 (sym (free-read n p) ∙ w.1))
+
+pub all-free : (ps : List (Option Entry)) (n : ℕ) → ps ≡ replicate n None → (length ps ≡ n) × Alone ps × Reached ps × (0 ≡ length (kept ps))
+all-free ps n is = (
+  ap length is ∙ length-replicate n None,
+  subst Alone (sym is) (free_alone n),
+  subst Reached (sym is) (free-reached n),
+  sym (ap (λ qs. length (kept qs)) is ∙ ap length (free-kept n)),
+)
 
 -- a fact about places with one write, told by the length before
 sized : (ps : List (Option Entry)) (i : ℕ) (v : Option Entry) (p b : ℕ) (k : ℕ) (Q : Type 0)

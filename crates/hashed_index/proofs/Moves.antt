@@ -1,5 +1,7 @@
 -- What a move of an entry back over a free place does.
 use Rattle.std.proofs.Common.{◌≡◌, ℕ, zero, suc, ◌+◌, ◌%◌, ◌<◌, ◌≤◌, cond, eqb, ◌⊎◌, List, length, get_or, set, is_some, Some, None, Option, sym, refl, ap, ◌∙◌, subst, inl, inr, mod-lt, arith}
+use Rattle.std.specs.List.{swap}
+use Rattle.std.proofs.lemmas.List.Edits.{length-swap, swap_is}
 use Rattle.std.proofs.lemmas.List.{length-set, get_or-set_same, get_or-set_other}
 use Rattle.std.proofs.lemmas.Bool.{cases_eq, eq-eqb, ne_eqb}
 use Rattle.index.specs.declared.entry.Entry.{Entry}
@@ -52,24 +54,25 @@ total_two f g i j n hi hj ne h =
 -- ---- an entry moves back over a hole
 module _ (ps : List (Option Entry)) (h j : ℕ) (e : Entry) (is : get_or ps j None ≡ Some e) (hj : j < length ps) (apart : j ≡ h → ⊥)
     (cut : dist (length ps) h j ≤ dist (length ps) (e.id % length ps) j)
-    (hh : h < length ps) (free : get_or ps h None ≡ None) (nearly : Nearly ps h) (alone : Alone ps) where
-  abbrev qs : List (Option Entry)
-  qs = set (set ps h (get_or ps j None)) j None
+    (hh : h < length ps) (free : get_or ps h None ≡ None) (nearly : Nearly ps h) (alone : Alone ps)
+    (qs : List (Option Entry)) (swapped : qs ≡ swap ps h j) where
+  moved : qs ≡ set (set ps h (get_or ps j None)) j None
+  moved = swapped ∙ sym (swap_is ps h j None hh hj) ∙ ap (λ (x : Option Entry). set (set ps h (get_or ps j None)) j x) free
 
   pub moved-len : length qs ≡ length ps
-  moved-len = simp length-set
+  moved-len = ap length swapped ∙ length-swap ps h j
 
   hj' : j < length (set ps h (get_or ps j None))
   hj' = simp length-set hj
 
   pub moved-free : get_or qs j None ≡ None
-  moved-free = get_or-set_same (set ps h (get_or ps j None)) j None None hj'
+  moved-free = ap (λ zs. get_or zs j None) moved ∙ get_or-set_same (set ps h (get_or ps j None)) j None None hj'
 
   read_h : get_or qs h None ≡ Some e
-  read_h = get_or-set_other (set ps h (get_or ps j None)) j h None None (λ x. apart (sym x)) ∙ get_or-set_same ps h (get_or ps j None) None hh ∙ is
+  read_h = ap (λ zs. get_or zs h None) moved ∙ get_or-set_other (set ps h (get_or ps j None)) j h None None (λ x. apart (sym x)) ∙ get_or-set_same ps h (get_or ps j None) None hh ∙ is
 
   read-other : (i : ℕ) → (i ≡ h → ⊥) → (i ≡ j → ⊥) → get_or qs i None ≡ get_or ps i None
-  read-other i x y = get_or-set_other (set ps h (get_or ps j None)) j i None None y ∙ get_or-set_other ps h i (get_or ps j None) None x
+  read-other i x y = ap (λ zs. get_or zs i None) moved ∙ get_or-set_other (set ps h (get_or ps j None)) j i None None y ∙ get_or-set_other ps h i (get_or ps j None) None x
 
   abbrev From : ℕ → Entry → Type 0
   From i x = (m : ℕ) × (get_or ps m None ≡ Some x) × (((i ≡ h) × (m ≡ j) × (x ≡ e)) ⊎ ((m ≡ i) × (i ≡ h → ⊥) × (i ≡ j → ⊥)))
@@ -116,7 +119,7 @@ module _ (ps : List (Option Entry)) (h j : ℕ) (e : Entry) (is : get_or ps j No
       let one : length (kept (set ps h (get_or ps j None))) ≡ length (kept ps) + 1 =
       ap (λ (z : Option Entry). length (kept (set ps h z))) is ∙ kept_fill ps h e hh free in
       let two : length (kept qs) + 1 ≡ length (kept (set ps h (get_or ps j None))) =
-      kept-drop (set ps h (get_or ps j None)) j e (get_or-set_other ps h j (get_or ps j None) None apart ∙ is) in
+      ap (λ zs. length (kept zs) + 1) moved ∙ kept-drop (set ps h (get_or ps j None)) j e (get_or-set_other ps h j (get_or ps j None) None apart ∙ is) in
       omega (arith, one, two)
 
   some : 0 < length ps

@@ -1,5 +1,5 @@
 -- How many places a hashed index may have, and why one was not made.
-use Rattle.std.specs.Prelude.{ℕ, Bool, cond, ◌&&◌, List, [], nat_le, nat_lt}
+use Rattle.std.specs.Prelude.{ℕ, Bool, if◌then◌else◌, ◌&&◌, List, [], nat_le, nat_lt}
 use Rattle.hashed_index.specs.declared.hashed.MakeError.{MakeError}
 use Rattle.hashed_index.specs.declared.hashed.MakeError.TheVariants.{Places, Memory}
 
@@ -14,4 +14,4 @@ told Memory = (0, [])
 
 -- the refusal of n places: of their number, or else for want of memory
 abbrev pub wanting : ℕ → ℕ × List ℕ
-wanting n = cond (in_range n) (0, []) (1, [])
+wanting n = if in_range n then (0, []) else (1, [])

@@ -1,5 +1,5 @@
 -- The places of a hashed index: how they are searched, and what stands in them.
-use Rattle.std.specs.Prelude.{◌≡◌, ℕ, ◌+◌, ◌-◌, ◌%◌, ◌<◌, true, cond, List, [], ◌∷◌, length, is_some, Some, None, Option, ◌≢◌, nat_le, slice_index_or}
+use Rattle.std.specs.Prelude.{◌≡◌, ℕ, ◌+◌, ◌-◌, ◌%◌, ◌<◌, true, if◌then◌else◌, List, [], ◌∷◌, length, is_some, Some, None, Option, ◌≢◌, nat_le, slice_index_or}
 use Rattle.index.specs.declared.entry.Entry.{Entry}
 
 -- what stands in the places
@@ -22,7 +22,7 @@ Alone ps = (i j : ℕ) → (e : Entry) × (slice_index_or ps i None ≡ Some e) 
 
 -- how many steps on, round the end of n places, the place b is from a
 abbrev pub dist : ℕ → ℕ → ℕ → ℕ
-dist n a b = cond (nat_le a b) (b - a) (b + n - a)
+dist n a b = if nat_le a b then b - a else b + n - a
 
 -- how many places a search for the id k passes before it comes to the place b
 abbrev pub passed : List (Option Entry) → ℕ → ℕ → ℕ

@@ -72,13 +72,11 @@ impl HashedIndex {
         let from = start(n, id);
         for step in 0..n {
             let i = along(n, from, step);
-            match self.places[i] {
-                None => return Spot::Free(i),
-                Some(e) => {
-                    if e.id == id {
-                        return Spot::At(i, e.number);
-                    }
-                }
+            let Some(e) = self.places[i] else {
+                return Spot::Free(i);
+            };
+            if e.id == id {
+                return Spot::At(i, e.number);
             }
         }
         Spot::Nowhere
@@ -119,7 +117,7 @@ impl Index for HashedIndex {
         match self.seek(id) {
             Spot::At(i, former) => {
                 self.places[i] = None;
-                settle(self.places.as_mut_slice(), i);
+                settle(&mut self.places, i);
                 self.taken -= 1;
                 Some(former)
             }
@@ -128,7 +126,7 @@ impl Index for HashedIndex {
     }
 
     fn clear(&mut self) {
-        self.places.as_mut_slice().fill(None);
+        self.places.fill(None);
         self.taken = 0;
     }
 

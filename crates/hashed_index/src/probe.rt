@@ -30,7 +30,11 @@ pub(crate) fn along(n: usize, from: usize, steps: usize) -> usize
     ensures value { dist n from result ≡ steps }
 {
     let to_end = n - from;
-    if steps < to_end { from + steps } else { steps - to_end }
+    if steps < to_end {
+        from + steps
+    } else {
+        steps - to_end
+    }
 }
 
 // The place from which an id is looked for.
@@ -52,14 +56,10 @@ fn cut_off(places: &[Option<Entry>], hole: usize) -> Option<usize>
     let n = places.len();
     for step in 1..n {
         let j = along(n, hole, step);
-        match places[j] {
-            None => return None,
-            Some(e) => {
-                let from = start(n, e.id);
-                if gap(n, from, j) >= step {
-                    return Some(j);
-                }
-            }
+        let e = places[j]?;
+        let from = start(n, e.id);
+        if gap(n, from, j) >= step {
+            return Some(j);
         }
     }
     None
@@ -77,8 +77,7 @@ pub(crate) fn settle(places: &mut [Option<Entry>], mut hole: usize)
     ensures len { length (kept places.new) ≡ length (kept places.old) }
 {
     while let Some(j) = cut_off(places, hole) {
-        places[hole] = places[j];
-        places[j] = None;
+        places.swap(hole, j);
         hole = j;
     }
 }

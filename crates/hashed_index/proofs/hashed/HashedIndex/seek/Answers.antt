@@ -3,8 +3,8 @@ use Rattle.hashed_index.specs.Places.{dist}
 use Rattle.hashed_index.proofs.Seeks as seeks
 use Rattle.hashed_index.proofs.hashed.HashedIndex.seek.Goals as goal
 
-pub returns-in-None : goal.returns-in-None
-returns-in-None c =
+pub returns-in_default : goal.returns-in_default
+returns-in_default c =
     let s = c.args.self.now in
     let ps = s.places.items in
     let i = c.along-i.result in

@@ -14,31 +14,31 @@ settle-requires-clause-nearly c =
     let s = c.args.self.now in
     let i = c.in-At.i in
     let e : Entry = record { id = c.args.id; number = c.in-At.former } in
-    subst (λ qs. Nearly qs i) (sym c.as_mut_slice.ensures.value) (drop-nearly s.places.items i e c.in-At.ensures.1 s.alone s.reached)
+    subst (λ qs. Nearly qs i) (sym c.deref_mut.ensures.value) (drop-nearly s.places.items i e c.in-At.ensures.1 s.alone s.reached)
 
 pub settle-requires-clause-alone : goal.settle-requires-clause-alone
 settle-requires-clause-alone c =
     let s = c.args.self.now in
     let e : Entry = record { id = c.args.id; number = c.in-At.former } in
-    subst Alone (sym c.as_mut_slice.ensures.value) (drop_alone s.places.items c.in-At.i e c.in-At.ensures.1 s.alone s.reached)
+    subst Alone (sym c.deref_mut.ensures.value) (drop_alone s.places.items c.in-At.i e c.in-At.ensures.1 s.alone s.reached)
 
 pub overflow_sub-self : goal.overflow_sub-self
 overflow_sub-self c =
     let s = c.args.self.now in
     let out =
-    out_means s.places.items c.as_mut_slice.result.now c.settle.new.places c.in-At.i c.args.id c.in-At.former s.alone s.reached c.in-At.ensures
-    c.as_mut_slice.ensures.value c.settle.ensures.same c.settle.ensures.len in
+    out_means s.places.items c.deref_mut.result.now c.settle.new.places c.in-At.i c.args.id c.in-At.former s.alone s.reached c.in-At.ensures
+    c.deref_mut.ensures.value c.settle.ensures.same c.settle.ensures.len in
     omega (arith, s.counted, out.2)
 
 pub invariant_of-self : goal.invariant_of-self
 invariant_of-self c =
     let s = c.args.self.now in
     let ws = c.settle.new.places in
-    let wl : length ws ≡ s.places.len = omega (arith, c.settle.auto.places, c.as_mut_slice.ensures.len) in
+    let wl : length ws ≡ s.places.len = omega (arith, c.settle.auto.places, c.deref_mut.ensures.len) in
     let is : vec_items (with_items (with_item s.places c.in-At.i None) ws) ≡ ws = with_items_is (with_item s.places c.in-At.i None) ws wl in
     let out =
-    out_means s.places.items c.as_mut_slice.result.now ws c.in-At.i c.args.id c.in-At.former s.alone s.reached c.in-At.ensures
-    c.as_mut_slice.ensures.value c.settle.ensures.same c.settle.ensures.len in
+    out_means s.places.items c.deref_mut.result.now ws c.in-At.i c.args.id c.in-At.former s.alone s.reached c.in-At.ensures
+    c.deref_mut.ensures.value c.settle.ensures.same c.settle.ensures.len in
     record {
       some = s.some;
       few = s.few;
@@ -52,11 +52,11 @@ pub returns-in-At-clause-cases : goal.returns-in-At-clause-cases
 returns-in-At-clause-cases c =
     let s = c.args.self.now in
     let ws = c.settle.new.places in
-    let wl : length ws ≡ s.places.len = omega (arith, c.settle.auto.places, c.as_mut_slice.ensures.len) in
+    let wl : length ws ≡ s.places.len = omega (arith, c.settle.auto.places, c.deref_mut.ensures.len) in
     let is : vec_items (with_items (with_item s.places c.in-At.i None) ws) ≡ ws = with_items_is (with_item s.places c.in-At.i None) ws wl in
     subst (λ zs. Removed (kept s.places.items) (kept zs) c.args.id (Some c.in-At.former)) (sym is)
-    (out_means s.places.items c.as_mut_slice.result.now ws c.in-At.i c.args.id c.in-At.former s.alone s.reached c.in-At.ensures
-    c.as_mut_slice.ensures.value c.settle.ensures.same c.settle.ensures.len)
+    (out_means s.places.items c.deref_mut.result.now ws c.in-At.i c.args.id c.in-At.former s.alone s.reached c.in-At.ensures
+    c.deref_mut.ensures.value c.settle.ensures.same c.settle.ensures.len)
 
 pub returns-in_default-clause-cases : goal.returns-in_default-clause-cases
 returns-in_default-clause-cases c =
