@@ -19,7 +19,7 @@ pub enum MakeError {
 }
 
 impl MakeError {
-    // The refusal's number; want of memory has none of the list, and answers 0.
+    // The refusal's number, as a rule of this project has it; want of memory has none of the list, and answers 0.
     pub fn number(&self) -> u32
         ensures { result ≡ (told self.now).0 }
     {
@@ -27,6 +27,15 @@ impl MakeError {
             MakeError::Places => 1,
             MakeError::Memory => 0,
         }
+    }
+}
+
+// Where there is no memory, that is why.
+impl From<AllocError> for MakeError {
+    ghost from_gives = { λ _ e. e ≡ Memory };
+
+    fn from(_e: AllocError) -> MakeError {
+        Self::Memory
     }
 }
 
@@ -43,15 +52,6 @@ pub struct HashedIndex {
     ghost counted: { taken ≡ length (kept places.items) },
 }
 
-// There is no memory for the places.
-impl From<AllocError> for MakeError {
-    ghost from_gives = { λ _ e. e ≡ Memory };
-
-    fn from(_e: AllocError) -> MakeError {
-        MakeError::Memory
-    }
-}
-
 impl HashedIndex {
     pub fn new(heap: Global, places: usize) -> Result<HashedIndex, MakeError>
         ensures made { IfOk result (λ i. (in_range places ≡ true) × (kept i.places.items ≡ []) × (vec_len i.places ≡ places)) }
@@ -64,12 +64,13 @@ impl HashedIndex {
         Ok(HashedIndex { places, taken: 0 })
     }
 
-    // Where an id stands: looked for from the id modulo the number of places, on round the end.
+    // Where an id stands. The way of a search is a rule of this project, so no map of the library stands here.
     fn seek(&self, id: u64) -> Spot
         ensures { Spotted self.now.places.items id result }
     {
         let n = self.places.len();
         let from = start(n, id);
+        // A chain of two ranges would be no plainer: `cut_off` goes the same way round, and compares its steps.
         for step in 0..n {
             let i = along(n, from, step);
             let Some(e) = self.places[i] else {

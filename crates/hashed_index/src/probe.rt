@@ -1,9 +1,8 @@
 // The way round the places of a hashed index, and what a removal moves there.
-ghost use Rattle.std.specs.Prelude.{◌≡◌, ℕ, ◌%◌, ◌<◌, ◌≤◌, length, replicate, Some, None, MatchOption, slice_index_or, slice_set};
-ghost use Rattle.index.specs.declared.entry.Entry.{Entry as Pair};
-ghost use Rattle.index.specs.Held.{at, Removed};
-ghost use Rattle.hashed_index.specs.Places.{dist, Taken, Alone, Reached, Nearly, kept};
-ghost use Rattle.hashed_index.specs.Spots.{Spotted, Cut};
+ghost use Rattle.std.specs.Prelude.{◌≡◌, ℕ, ◌%◌, ◌<◌, length, None, MatchOption, slice_index_or};
+ghost use Rattle.index.specs.Held.{at};
+ghost use Rattle.hashed_index.specs.Places.{dist, Alone, Reached, Nearly, kept};
+ghost use Rattle.hashed_index.specs.Spots.{Cut};
 
 use index::entry::Entry;
 

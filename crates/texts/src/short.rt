@@ -7,8 +7,7 @@ use crate::Text;
 use crate::bytes::{byte_of, same_bytes};
 use crate::error::NoSuchText;
 
-// A text takes its memory from no heap: an array, and how many of its bytes are meant. What stands past them may differ
-// between equal texts, so `same` compares what is meant, and no `==` is derived.
+// An array with a count, since no text is on a heap; no `==` is derived, since the bytes past the count may differ.
 #[derive(Clone, Copy)]
 pub struct ShortText {
     held: [u8; 64],
