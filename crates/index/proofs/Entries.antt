@@ -1,13 +1,17 @@
 -- Where an id stands in a list of entries, and what it stands for.
 use Rattle.std.proofs.Common.{◌≡◌, ℕ, zero, suc, ◌<◌, eqb, ◌⊎◌, List, [], ◌∷◌, map, length, get_or, Some, None, Option, sym, refl, ap, ◌∙◌, inl, inr, arith}
 use Rattle.std.specs.Map.{update}
-use Rattle.std.proofs.lemmas.Option.{none-some}
+use Rattle.std.proofs.lemmas.Option as option
 use Rattle.std.proofs.lemmas.Bool.{eq-eqb, ne_eqb, cases_eq, cases_order}
 use Rattle.index.specs.declared.entry.Entry.{Entry}
 use Rattle.index.specs.Held.{at, Once, blank}
 use Rattle.index.proofs.Pigeons.{Mem, Apart}
 
 -- ---- options
+-- std's, with the option named, as the crates above cite it
+pub none-some : {A : Type 0} (o : Option A) (x : A) → o ≡ None → o ≡ Some x → ⊥
+none-some o x n s = option.none-some x (sym n ∙ s)
+
 pub same_some : {A : Type 0} (o : Option A) (x y : A) → o ≡ Some x → o ≡ Some y → x ≡ y
 same_some o x y p q = cc
 
@@ -62,7 +66,7 @@ pub at-absent : (es : List Entry) (k : ℕ) → Absent es k → at es k ≡ None
 at-absent es k f = elim (at_where es k) [ inl w ↦ w.0 | inr w ↦ absurd (f w.0 w.1 w.2) ]
 
 pub absent-at : (es : List Entry) (k : ℕ) → Once es → at es k ≡ None → Absent es k
-absent-at es k once n i h e = none-some _ (sym n ∙ (at_place es i k once h e))
+absent-at es k once n i h e = option.none-some _ (sym n ∙ (at_place es i k once h e))
 
 -- taking out an id that is not held changes nothing
 pub unheld : (es : List Entry) (k : ℕ) → at es k ≡ None → (q : ℕ) → at es q ≡ update eqb (at es) k None q
@@ -99,7 +103,7 @@ length_ids (e ∷ es) = ap suc (length_ids es)
 
 pub at_mem : (es : List Entry) (k n : ℕ) → at es k ≡ Some n → Mem k (ids_of es)
 unfolding ids_of
-at_mem [] k n h = absurd (none-some n h)
+at_mem [] k n h = absurd (option.none-some n h)
 at_mem (e ∷ es) k n h =
     elim (cases_eq k e.id) [
       | inl x ↦ inl x
@@ -122,6 +126,6 @@ pub once-apart : (es : List Entry) → Once es → Apart (ids_of es)
 unfolding ids_of
 once-apart [] o = tt
 once-apart (e ∷ es) o = (
-  λ m. let p = mem_at es e.id m in none-some p.0 (sym (once-head e es o) ∙ p.1),
+  λ m. let p = mem_at es e.id m in option.none-some p.0 (sym (once-head e es o) ∙ p.1),
   once-apart es (once_tail e es o),
 )
