@@ -7,7 +7,7 @@ use crate::buffer::ChangeBuffer;
 use refusals::{ChangeBufferError, Result};
 
 // The code of an operation that can be encoded in a `ChangeBuffer`.
-#[derive(Clone, Copy)]
+#[derive(Clone, Copy, PartialEq, Eq, Debug)]
 pub enum OpCode {
     Create = 0,
     SetMetaAttr = 1,
@@ -61,15 +61,17 @@ impl TryFrom<u16> for OpCode {
     }
 }
 
-impl OpCode {
-    // The number from which `try_from` gives this opcode again.
-    pub fn number(self) -> u16
-        ensures value { result ≡ code self }
-        ensures back { NamesOnly (code self) self }
-    {
-        self as u16
-    }
+// The number from which `try_from` gives this opcode again.
+impl From<OpCode> for u16 {
+    ghost from_gives = { λ opcode number. (number ≡ code opcode) × NamesOnly number opcode };
 
+    fn from(opcode: OpCode) -> u16 {
+        opcode as u16
+    }
+}
+
+impl OpCode {
+    // By hand: the derived `Debug` writes the same words, but hands out no `str`.
     pub fn name(self) -> &'static str
         ensures value { result.now ≡ name_of self }
     {
@@ -96,7 +98,7 @@ impl OpCode {
 }
 
 // How an operation begins: its opcode and the span that it is about.
-#[derive(Clone, Copy)]
+#[derive(Clone, Copy, PartialEq, Eq, Debug)]
 pub struct BufferedOperation {
     pub opcode: OpCode,
     pub span_id: u64,
