@@ -43,7 +43,7 @@ pub enum ChangeBufferError {
 }
 
 impl ChangeBufferError {
-    // The number of the question that was answered no.
+    // The number of the question that was answered no, which the rules of the recorder give.
     pub fn number(&self) -> u32
         ensures value { result ≡ (told self.now).0 }
     {
@@ -65,6 +65,7 @@ impl ChangeBufferError {
     }
 }
 
+// By hand: the words that `thiserror` derives stand in no contract.
 impl fmt::Display for ChangeBufferError {
     ghost output = { λ e. Some (said e) };
 
