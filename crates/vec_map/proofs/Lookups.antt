@@ -1,7 +1,8 @@
 -- Taking the repeats out leaves every lookup as it was, and no key twice.
-use Rattle.std.proofs.Common.{◌≡◌, ℕ, Bool, true, false, cond, ◌||◌, ◌⊎◌, List, [], ◌∷◌, ◌++◌, reverse, Some, None, Option, sym, refl, ap, ◌∙◌, inl, inr, arith}
+use Rattle.std.proofs.Common.{◌≡◌, ℕ, Bool, true, false, cond, ◌||◌, ◌⊎◌, List, [], ◌∷◌, ◌++◌, reverse, Some, None, Option, option_map, sym, refl, ap, ◌∙◌, inl, inr, arith}
 use mathlib.Core.List.{reverse-cons}
 use Rattle.std.proofs.lemmas.List.{take_at}
+use Rattle.std.specs.List.{find}
 use Rattle.vec_map.specs.Rows.{Equivalence, or_else, last_value, known, firsts, without_repeats, Row, items, dedup_row, NoRepeats}
 use Rattle.vec_map.proofs.Steps.{known_push, or_true, or_left}
 
@@ -46,6 +47,10 @@ module _ {K V : Type 0} (same : K → K → Bool) (fair : Equivalence same) wher
   or_else_cond true v x y o e = refl
   or_else_cond false v x y o e = e
 
+  found_step : (b : Bool) (p : K × V) (o : Option (K × V)) (v : Option V) → option_map (λ (p : K × V). p.1) o ≡ v → option_map (λ (p : K × V). p.1) (cond b (Some p) o) ≡ cond b (Some p.1) v
+  found_step true p o v e = refl
+  found_step false p o v e = e
+
   first_push : (k : K) (xs : List (K × V)) (p : K × V) → first_value k (xs ++ p ∷ []) ≡ or_else (first_value k xs) (cond (same p.0 k) (Some p.1) None)
   first_push k [] p = refl
   first_push k (q ∷ xs) p =
@@ -56,6 +61,13 @@ module _ {K V : Type 0} (same : K → K → Bool) (fair : Equivalence same) wher
   first-reverse k (p ∷ xs) =
       ap (λ ys. first_value k ys) (reverse-cons p xs)
       ∙ (first_push k (reverse xs) p ∙ ap (λ o. or_else o (cond (same p.0 k) (Some p.1) None)) (first-reverse k xs))
+
+  first-found : (k : K) (xs : List (K × V)) → option_map (λ (p : K × V). p.1) (find (λ p. same p.0 k) xs) ≡ first_value k xs
+  first-found k [] = refl
+  first-found k (p ∷ xs) = found_step (same p.0 k) p (find (λ p. same p.0 k) xs) (first_value k xs) (first-found k xs)
+
+  pub last-found : (k : K) (xs : List (K × V)) → option_map (λ (p : K × V). p.1) (find (λ p. same p.0 k) (reverse xs)) ≡ last_value same k xs
+  last-found k xs = first-found k (reverse xs) ∙ first-reverse k xs
 
   first_step : (k : K) (kept ys : List (K × V)) (p : K × V) → known same k kept ≡ false
       → (known same p.0 kept ≡ true) ⊎ (known same p.0 kept ≡ false)

@@ -1,11 +1,9 @@
 -- One row of a flat table: what a write to it leaves of the table, of that row and of the others.
-use Rattle.std.proofs.Common.{◌≡◌, ℕ, ◌+◌, ◌-◌, ◌*◌, ◌<◌, ◌≤◌, true, cond, List, ◌++◌, length, take, drop, sym, ap, ◌∙◌, subst, ⊎_elim, mul-le-mul_right, add-mul, one-mul, arith, length-append, length-drop, length-take, le-leb}
+use Rattle.std.proofs.Common.{◌≡◌, ℕ, ◌+◌, ◌-◌, ◌*◌, ◌<◌, ◌≤◌, List, ◌++◌, length, take, drop, sym, ap, ◌∙◌, ⊎_elim, mul-le-mul_right, add-mul, one-mul, arith, length-append, length-drop, length-take}
 use borrow.Rule.Slice.PartMut.{put_mid}
 use Rattle.std.proofs.lemmas.List.{drop-drop, drop-append-le, take-append-le, drop-take, take-take, drop_at, take_at, append_assoc}
 use Rattle.std.proofs.lemmas.Bool.{cases_lt}
-use Rattle.vec_map.specs.declared.head.Head.{Head}
-use Rattle.vec_map.specs.Rows.{Row}
-use Rattle.vec_map.specs.Tables.{headed, row, with_row, in_table, changed, changed_row, OthersStay}
+use Rattle.vec_map.specs.Tables.{row, with_row, OthersStay}
 
 width : (a w : ℕ) → a + w - a ≡ w
 width a w = omega arith
@@ -56,30 +54,7 @@ row_same w k xs ys l e =
     let f : length (take (k * w) xs) ≡ k * w = simp length-take (omega arith) in
     ap (λ zs. take w zs) (drop_at (take (k * w) xs) (ys ++ drop (k * w + w) xs) (k * w) f) ∙ take_at ys (drop (k * w + w) xs) w e
 
--- row k is read and changed through a part of the table that begins at `from`
-module _ {K V : Type 0} (f : Row K V → Row K V) (w k : ℕ) (xs ys : List (K × V)) (old new : Head) where
-  abbrev pub Changes : ℕ → Type 0
-  Changes from =
-      headed ys new ≡ f (headed (take (from + w - from) (drop from xs)) old) →
-      (put_mid from (from + w - from) xs ys ≡ changed f w k xs old)
-      × (headed (row w k (put_mid from (from + w - from) xs ys)) new ≡ changed_row f w k xs old)
-      × OthersStay w k xs (put_mid from (from + w - from) xs ys)
-
-  changes-there : k * w + w ≤ length xs → length ys ≡ w → Changes (k * w)
-  changes-there i l is =
-      let b : in_table w k xs ≡ true = le-leb (k * w + w) (length xs) i in
-      let r = is ∙ ap (λ zs. f (headed zs old)) (row_read w k xs) in
-      let t = row_put w k xs ys in (
-        t ∙ (ap (λ q. with_row w k xs q.room) r ∙ sym (ap (λ c. cond c (with_row w k xs (f (headed (row w k xs) old)).room) xs) b)),
-        ap (λ zs. headed (row w k zs) new) t
-            ∙ (ap (λ zs. headed zs new) (row_same w k xs ys i l)
-            ∙ (r ∙ sym (ap (λ c. cond c (f (headed (row w k xs) old)) (headed (row w k xs) old)) b))),
-        λ j n. ap (λ zs. row w j zs) t ∙ row_other w j k xs ys n i l,
-      )
-
-  pub changes : (from : ℕ) → from ≡ k * w → k * w + w ≤ length xs → length ys ≡ w → Changes from
-  changes from e i l = subst Changes (sym e) (changes-there i l)
-
--- the part that begins at `from` is row k
-pub part-read : {X : Type 0} (w k from : ℕ) (xs : List X) → from ≡ k * w → take (from + w - from) (drop from xs) ≡ row w k xs
-part-read w k from xs e = subst (λ (n : ℕ). take (n + w - n) (drop n xs) ≡ row w k xs) (sym e) (row_read w k xs)
+-- every other row stays where row k is written as the part of the table that begins at `from`
+pub others_stay : {X : Type 0} (w k from : ℕ) (xs ys : List X) → from ≡ k * w → k * w + w ≤ length xs → length ys ≡ w → OthersStay w k xs (put_mid from (from + w - from) xs ys)
+others_stay w k from xs ys e l n j d =
+    ap (λ i. row w j (put_mid i (i + w - i) xs ys)) e ∙ (ap (λ zs. row w j zs) (row_put w k xs ys) ∙ row_other w j k xs ys d l n)

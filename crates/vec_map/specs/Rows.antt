@@ -1,5 +1,6 @@
 -- A row of pairs: its memory, how many pairs of it count, and its mark; the value of a key, and what each change leaves.
-use Rattle.std.specs.Prelude.{◌≡◌, ℕ, ◌+◌, Bool, true, false, cond, ◌||◌, List, [], ◌∷◌, ◌++◌, reverse, length, take, drop, Some, None, Ok, Err, Option, Result, nat_le, slice_set}
+use Rattle.std.specs.Prelude.{◌≡◌, ℕ, ◌+◌, Bool, true, false, cond, List, [], ◌∷◌, ◌++◌, reverse, length, take, drop, Some, None, Ok, Err, Option, Result, nat_le, slice_set}
+use Rattle.std.specs.List.{list_any}
 
 -- what the sameness of keys is held to
 pub record Equivalence {K : Type 0} (same : K → K → Bool) : Type 0 where
@@ -19,8 +20,7 @@ last_value same k (p ∷ ps) = or_else (last_value same k ps) (cond (same p.0 k)
 
 -- k is one of the keys
 abbrev pub known : {K V : Type 0} → (K → K → Bool) → K → List (K × V) → Bool
-known same k [] = false
-known same k (p ∷ ps) = same p.0 k || known same k ps
+known same k ps = list_any (λ p. same p.0 k) ps
 
 -- each key's first pair, in order, leaving out the keys that stand in `kept`
 abbrev pub firsts : {K V : Type 0} → (K → K → Bool) → List (K × V) → List (K × V) → List (K × V)

@@ -7,6 +7,7 @@ use crate::key::Key;
 use crate::{VecMap, row};
 
 impl<'a, K: Key, V: Copy> VecMap<'a, K, V> {
+    #[tactic(auto, unfolding(crate::specs::Rows::insert_row, crate::specs::Rows::insert_answer))]
     // One pair more at the end, which clears the mark. A full row hands the pair back and stays as it is.
     pub fn insert(&mut self, key: K, value: V) -> Result<(), (K, V)>
         ensures place { self.new.pairs.ghost_name ≡ self.old.pairs.ghost_name }
@@ -14,12 +15,13 @@ impl<'a, K: Key, V: Copy> VecMap<'a, K, V> {
         ensures answer { result ≡ insert_answer (row_of self.old) key value }
         ensures row { row_of self.new ≡ insert_row (row_of self.old) key value }
     {
-        let at = self.len;
-        if !row::put(self.pairs, at, (key, value)) {
+        // By the length: of a slice after `get_mut` no element can be told.
+        if self.head.count >= self.pairs.len() {
             return Err((key, value));
         }
-        self.len = at + 1;
-        self.deduped = false;
+        self.pairs[self.head.count] = (key, value);
+        self.head.count += 1;
+        self.head.deduped = false;
         Ok(())
     }
 
@@ -28,14 +30,14 @@ impl<'a, K: Key, V: Copy> VecMap<'a, K, V> {
         ensures place { self.new.pairs.ghost_name ≡ self.old.pairs.ghost_name }
         ensures row { row_of self.new ≡ clear_row (row_of self.old) }
     {
-        self.len = 0;
+        self.head.count = 0;
     }
 
     pub fn mark_deduped(&mut self)
         ensures place { self.new.pairs.ghost_name ≡ self.old.pairs.ghost_name }
         ensures row { row_of self.new ≡ mark_row (row_of self.old) }
     {
-        self.deduped = true;
+        self.head.deduped = true;
     }
 
     // Nothing on a marked row. Otherwise the row reversed, each key's first pair kept, and the mark set: every lookup
@@ -46,18 +48,9 @@ impl<'a, K: Key, V: Copy> VecMap<'a, K, V> {
         ensures lookups { (k : K) → last_value K.alike k (items (row_of self.new)) ≡ last_value K.alike k (items (row_of self.old)) }
         ensures once { (row_of self.old).deduped ≡ false → NoRepeats K.alike (items (row_of self.new)) }
     {
-        self.take_repeats_out();
-    }
-
-    fn take_repeats_out(&mut self)
-        ensures place { self.new.pairs.ghost_name ≡ self.old.pairs.ghost_name }
-        ensures row { row_of self.new ≡ dedup_row K.alike (row_of self.old) }
-    {
-        if self.deduped {
-            return;
+        if !self.head.deduped {
+            self.head.count = row::dedup(self.pairs, self.head.count);
+            self.mark_deduped();
         }
-        let len = self.len;
-        self.len = row::dedup(self.pairs, len);
-        self.mark_deduped();
     }
 }

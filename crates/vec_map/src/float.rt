@@ -20,8 +20,6 @@ pub fn bits_float(bits: u64) -> f64
 }
 
 // Not-a-numbers are stored as one pattern, and +0 and -0 as two.
-pub fn float_patterns() -> u8
+pub fn float_patterns()
     ensures { Patterns }
-{
-    0
-}
+{}

@@ -23,8 +23,7 @@ pub mod worked;
 #[derive(Drop)]
 pub struct VecMap<'a, K, V> {
     pairs: &'a mut [(K, V)],
-    len: usize,
-    deduped: bool,
+    head: Head,
 }
 
 impl<'a, K: Key, V: Copy> VecMap<'a, K, V> {
@@ -33,47 +32,40 @@ impl<'a, K: Key, V: Copy> VecMap<'a, K, V> {
         ensures place { result.pairs.ghost_name ≡ pairs.entry.ghost_name }
         ensures row { row_of result ≡ headed pairs.old head }
     {
-        VecMap {
-            pairs,
-            len: head.count,
-            deduped: head.deduped,
-        }
+        VecMap { pairs, head }
     }
 
     // The count and the mark, to be kept beside the row.
     pub fn head(&self) -> Head
         ensures { headed self.now.pairs.now result ≡ row_of self.now }
     {
-        Head {
-            count: self.len,
-            deduped: self.deduped,
-        }
+        self.head
     }
 
     // How many pairs there are, repeats counted.
     pub fn len(&self) -> usize
         ensures { result ≡ (row_of self.now).len }
     {
-        self.len
+        self.head.count
     }
 
     pub fn is_deduped(&self) -> bool
         ensures { result ≡ (row_of self.now).deduped }
     {
-        self.deduped
+        self.head.deduped
     }
 
     // The pairs in order, repeats included.
     pub fn pairs(&self) -> &[(K, V)]
         ensures { result.now ≡ items (row_of self.now) }
     {
-        row::front(self.pairs, self.len)
+        row::front(self.pairs, self.head.count)
     }
 
     // The value of the last pair with the key.
     pub fn get(&self, key: &K) -> Option<&V>
         ensures { option_map (λ x. x.now) result ≡ last_value K.alike key.now (items (row_of self.now)) }
     {
-        row::value_of(self.pairs, self.len, key)
+        row::value_of(self.pairs(), key)
     }
 }

@@ -1,5 +1,5 @@
 // What a pair map does on the memory of its row.
-ghost use Rattle.std.specs.Prelude.{◌≡◌, ℕ, ◌≤◌, List, ◌++◌, length, take, drop, if◌then◌else◌, nat_lt, slice_set};
+ghost use Rattle.std.specs.Prelude.{◌≡◌, List, ◌++◌, length, take, drop, Ok, Err, if◌then◌else◌, nat_lt, slice_set};
 ghost use Rattle.std.specs.Option.{option_map};
 ghost use Rattle.vec_map.specs.Rows.{last_value, known, firsts, without_repeats, deduped_room};
 
@@ -9,48 +9,24 @@ use crate::key::Key;
 pub fn front<K: Key, V: Copy>(row: &[(K, V)], len: usize) -> &[(K, V)]
     ensures { result.now ≡ take len row.now }
 {
-    let end = len.min(row.len());
-    &row[0..end]
+    row.get(..len).unwrap_or(row)
 }
 
-// Writes a pair at a place, if the row has it.
-pub fn put<K: Key, V: Copy>(row: &mut [(K, V)], at: usize, pair: (K, V)) -> bool
-    ensures test { result ≡ nat_lt at (length row.old) }
-    ensures after { row.new ≡ (if result then slice_set row.old at pair else row.old) }
+// The value of the last pair with the key.
+pub fn value_of<'a, K: Key, V: Copy>(row: &'a [(K, V)], key: &K) -> Option<&'a V>
+    ensures { option_map (λ x. x.now) result ≡ last_value K.alike key.now row.now }
 {
-    let fits = at < row.len();
-    if fits {
-        row[at] = pair;
-    }
-    fits
+    row.iter()
+        .rev()
+        .find(|pair| pair.0.same_key(key))
+        .map(|pair| &pair.1)
 }
 
-pub fn value_of<'a, K: Key, V: Copy>(row: &'a [(K, V)], len: usize, key: &K) -> Option<&'a V>
-    ensures { option_map (λ x. x.now) result ≡ last_value K.alike key.now (take len row.now) }
+// Whether one of the pairs has the key.
+fn has_key<K: Key, V: Copy>(row: &[(K, V)], key: &K) -> bool
+    ensures { result ≡ known K.alike key.now row.now }
 {
-    let mut i = len.min(row.len());
-    while i > 0 {
-        i -= 1;
-        let pair = &row[i];
-        if pair.0.same_key(key) {
-            return Some(&pair.1);
-        }
-    }
-    None
-}
-
-// Whether one of the first pairs of the row has the key of the other pair.
-fn has_key<K: Key, V: Copy>(row: &[(K, V)], count: usize, other: &(K, V)) -> bool
-    requires { count ≤ length row.now }
-    ensures { result ≡ known K.alike other.now.0 (take count row.now) }
-{
-    for i in 0..count {
-        let pair = row[i];
-        if pair.0.same_key(&other.0) {
-            return true;
-        }
-    }
-    false
+    row.iter().any(|pair| pair.0.same_key(key))
 }
 
 // Takes the repeats out of the first `len` pairs, and says how many are left.
@@ -59,20 +35,20 @@ pub fn dedup<K: Key, V: Copy>(row: &mut [(K, V)], len: usize) -> usize
     ensures room { row.new ≡ deduped_room K.alike len row.old }
 {
     let end = len.min(row.len());
-    let part = &mut row[0..end];
+    let part = &mut row[..end];
     part.reverse();
-    keep_firsts(row, end)
+    keep_firsts(part)
 }
 
-fn keep_firsts<K: Key, V: Copy>(row: &mut [(K, V)], end: usize) -> usize
-    requires { end ≤ length row.old }
-    ensures count { result ≡ length (firsts K.alike List.[] (take end row.old)) }
-    ensures room { row.new ≡ firsts K.alike List.[] (take end row.old) ++ drop (length (firsts K.alike List.[] (take end row.old))) row.old }
+// Moves each key's first pair to the front, and says how many there are. By places: the row is written as it is read.
+fn keep_firsts<K: Key, V: Copy>(row: &mut [(K, V)]) -> usize
+    ensures count { result ≡ length (firsts K.alike List.[] row.old) }
+    ensures room { row.new ≡ firsts K.alike List.[] row.old ++ drop (length (firsts K.alike List.[] row.old)) row.old }
 {
     let mut count = 0;
-    for i in 0..end {
+    for i in 0..row.len() {
         let pair = row[i];
-        if !has_key(row, count, &pair) {
+        if !has_key(&row[..count], &pair.0) {
             row[count] = pair;
             count += 1;
         }

@@ -1,36 +1,16 @@
-use Rattle.std.proofs.Common.{◌≡◌, ◌+◌, ◌-◌, cond, take, Some, sym, ap, ◌∙◌, arith}
-use Rattle.vec_map.specs.Rows.{last_value}
-use Rattle.vec_map.proofs.Steps.{last_more, take_min}
+use Rattle.std.proofs.Common.{◌≡◌, rules, ap, ◌∙◌}
+use borrow.Author.Tests.{tests}
+use Rattle.std.proofs.lemmas.Iterator.Adapters.{YieldsList-from_rev_slice}
+use Rattle.std.proofs.lemmas.Iterator.Search.{find_from_yields_List}
+use Rattle.std.specs.Option.{option_map}
+use Rattle.vec_map.proofs.Lookups.{last-found}
 use Rattle.vec_map.proofs.row.value_of.Goals as goal
 
-pub loop-i-init : goal.loop-i-init
-loop-i-init g c = (
-  omega arith,
-  ap (λ xs. last_value g.K.Key.alike c.args.key.now xs) (take_min c.args.len c.args.row.now ∙ ap (λ n. take n c.args.row.now) (sym c.min-i.ensures)),
-)
-
-pub returns-then-same_key : goal.returns-then-same_key
-returns-then-same_key g c =
-    let p : c.loop-i.i - 1 + 1 ≡ c.loop-i.i = omega arith in
+pub returns : goal.returns
+returns g c =
     let same = g.K.Key.alike in
     let k = c.args.key.now in
     let xs = c.args.row.now in
-    let x = c.index-row-i.result in
-    sym (c.loop-i.invariant.1
-    ∙ (ap (λ n. last_value same k (take n xs)) (sym p)
-    ∙ (last_more same k xs (c.loop-i.i - 1) x (omega arith) c.index-row-i.is
-    ∙ ap (λ b. cond b (Some x.1) (last_value same k (take (c.loop-i.i - 1) xs))) (sym c.if-same_key.ensures))))
-
-pub loop-i-preserved : goal.loop-i-preserved
-loop-i-preserved g c =
-    let p : c.loop-i.i - 1 + 1 ≡ c.loop-i.i = omega arith in
-    let same = g.K.Key.alike in
-    let k = c.args.key.now in
-    let xs = c.args.row.now in
-    let x = c.index-row-i.result in (
-      omega arith,
-      c.loop-i.invariant.1
-          ∙ (ap (λ n. last_value same k (take n xs)) (sym p)
-          ∙ (last_more same k xs (c.loop-i.i - 1) x (omega arith) c.index-row-i.is
-          ∙ ap (λ b. cond b (Some x.1) (last_value same k (take (c.loop-i.i - 1) xs))) (sym c.if-same_key.ensures))),
-    )
+    let e = find_from_yields_List (λ p. same p.0 k) _ _ c.find.result c.find.ensures.ran (YieldsList-from_rev_slice xs cc) (λ x b q k. search (rules, tests)) in
+    let m : option_map (λ x. x.now) c.map.result ≡ option_map (λ p. p.1) (option_map (λ p. p.now) c.find.result) = search rules in
+    m ∙ (ap (λ o. option_map (λ p. p.1) o) e ∙ last-found same g.K.Key.fair k xs)
