@@ -15,7 +15,7 @@ impl<'a, K: Key, V: Copy> VecMap<'a, K, V> {
         ensures answer { result ≡ insert_answer (row_of self.old) key value }
         ensures row { row_of self.new ≡ insert_row (row_of self.old) key value }
     {
-        // By the length: of a slice after `get_mut` no element can be told.
+        // By the length: after a `get_mut` of a slice a proof knows no element of it.
         if self.head.count >= self.pairs.len() {
             return Err((key, value));
         }

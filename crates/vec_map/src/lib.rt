@@ -27,7 +27,8 @@ pub struct VecMap<'a, K, V> {
 }
 
 impl<'a, K: Key, V: Copy> VecMap<'a, K, V> {
-    // The map over a row, of which as many pairs count as the head says.
+    // The map over a row, of which as many pairs count as the head says. `place`, here and at each change, says that the
+    // map stays on this row: without it nothing is known of the row once the map is gone.
     pub fn new(pairs: &'a mut [(K, V)], head: Head) -> VecMap<'a, K, V>
         ensures place { result.pairs.ghost_name ≡ pairs.entry.ghost_name }
         ensures row { row_of result ≡ headed pairs.old head }
