@@ -1,17 +1,15 @@
 -- Readings: of a text with bytes in front, of what is written by the grammar, and of the plain writing.
-use Rattle.std.proofs.Common.{◌≡◌, ℕ, ◌+◌, ◌*◌, ◌/◌, ◌%◌, ◌<◌, true, List, [], ◌∷◌, ◌++◌, length, get_or, drop, Ok, Err, Result, Vec, refl, ap, ◌∙◌, subst, inl, inr, ⊎_elim, arith}
+use Rattle.std.proofs.Common.{◌≡◌, ℕ, ◌+◌, ◌*◌, ◌/◌, ◌%◌, ◌<◌, List, [], ◌∷◌, ◌++◌, length, get_or, drop, Ok, Err, Result, Vec, refl, ap, ◌∙◌, subst, inl, inr, arith}
 use Rattle.std.specs.declared.alloc.Global.{Global}
 use Rattle.std.proofs.lemmas.List.{drop_more}
-use Rattle.std.proofs.lemmas.Bool.{cases_Bool}
 use Rattle.std.proofs.lemmas.Bool.Decides.{nat_tests}
 use Rattle.hex_text.specs.declared.error.HexError.{HexError}
 use Rattle.hex_text.specs.declared.error.HexError.TheVariants.{Memory, Odd, Unknown}
-use Rattle.hex_text.specs.declared.read.Mark.TheVariants.{Digit, Newline}
+use Rattle.hex_text.specs.declared.read.Mark.TheVariants.{Digit}
 use Rattle.hex_text.specs.declared.read.Mode.{Mode}
 use Rattle.hex_text.specs.declared.read.Mode.TheVariants.{Comment, First, Outside}
 use Rattle.hex_text.specs.declared.read.Step.{Step}
 use Rattle.hex_text.specs.Grammar.{Bytes, Gives, OneLine, Says, blank, byte, comment, digit, nothing, remark, written}
-use Rattle.hex_text.specs.Places.{newline}
 use Rattle.hex_text.specs.Steps.{goes}
 use Rattle.hex_text.specs.Texts.{Reads, Saying, before, bytes, mark, odd, reading, unknown}
 
@@ -83,10 +81,6 @@ gives-meant text r h bs meant = gives text bs r h (says_reads meant)
 
 pub gives_back : (text : List ℕ) (r : Result (Vec ℕ Global) HexError) → Reads text r → (bs : List ℕ) → Bytes bs → text ≡ written bs → Gives bs r
 gives_back text r h bs small e = gives text bs r h (ap (reading Outside) e ∙ says_reads (written_says bs small))
-
--- the newline's mark is its own
-pub newline-mark : (b : ℕ) → mark b ≡ Newline → newline b ≡ true
-newline-mark b e = ⊎_elim (λ t. t) (λ f. absurd (grind (arith, nat_tests))) (cases_Bool (newline b))
 
 -- after a step at a byte, the text says what the step goes on to
 pub turned : (text bs : List ℕ) (mode : Mode) (i : ℕ) (step : Step) → i < length text → reading Outside text ≡ ahead bs (reading mode (drop i text)) → ((rest : List ℕ) → reading mode (get_or text i 0 ∷ rest) ≡ goes step (get_or text i 0) rest) → reading Outside text ≡ ahead bs (goes step (get_or text i 0) (drop (i + 1) text))

@@ -15,10 +15,6 @@ abbrev pub place : List ℕ → ℕ → Position
 place text offset =
     record { line = 1 + count_by newline (take offset text); column = 1 + suffix_len (λ b. not (newline b)) (take offset text) }
 
--- the position after a byte
-abbrev pub next : ℕ → Position → Position
-next b p = record { line = p.line + cond (newline b) 1 0; column = 1 + cond (newline b) 0 p.column }
-
 -- a position in words
 abbrev pub place_words : Position → List ℕ
 place_words p = codes "line " ++ (decimal p.line ++ (codes ", column " ++ decimal p.column))

@@ -17,6 +17,7 @@ pub enum HexError {
     Memory,
 }
 
+// This and what follows by hand: a `From` and the words that `thiserror` derives stand in no contract.
 impl From<AllocError> for HexError {
     ghost from_gives = { λ _ r. r ≡ no-memory };
 

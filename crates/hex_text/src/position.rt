@@ -1,6 +1,6 @@
 // Places in a text as a person counts them: lines and columns, both from 1.
-ghost use Rattle.std.specs.Prelude.{◌≡◌, ◌+◌, ◌^◌, ◌<◌, Some};
-ghost use Rattle.hex_text.specs.Places.{next, place, place_words};
+ghost use Rattle.std.specs.Prelude.{◌≡◌, Some};
+ghost use Rattle.hex_text.specs.Places.{place, place_words};
 
 use std::fmt;
 
@@ -15,29 +15,16 @@ impl Position {
     pub fn of(text: &[u8], offset: usize) -> Position
         ensures value { result ≡ place text.now offset }
     {
-        let mut position = Position { line: 1, column: 1 };
-        let end = offset.min(text.len());
-        for byte in &text[0..end] {
-            position = position.after(*byte);
-        }
-        position
-    }
-
-    // The position after a byte that stands here.
-    fn after(self, byte: u8) -> Position
-        requires { (self.line + 1 < 2 ^ 64) × (self.column + 1 < 2 ^ 64) }
-        ensures value { result ≡ next byte self }
-    {
-        if byte == b'\n' {
-            Position {
-                line: self.line + 1,
-                column: 1,
-            }
-        } else {
-            Position {
-                line: self.line,
-                column: self.column + 1,
-            }
+        let before = &text[..offset.min(text.len())];
+        let newlines = before.iter().filter(|byte| **byte == b'\n').count();
+        let since = before
+            .iter()
+            .rev()
+            .take_while(|byte| **byte != b'\n')
+            .count();
+        Position {
+            line: 1 + newlines,
+            column: 1 + since,
         }
     }
 }

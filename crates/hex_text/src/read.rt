@@ -28,7 +28,7 @@ enum Mode {
     First(u8),
 }
 
-// What the reader does at a byte of the text.
+// What the reader does at a byte of the text. No `Result`: both faults take their places from the whole text.
 #[derive(Clone, Copy)]
 enum Step {
     To(Mode),
@@ -89,10 +89,10 @@ impl Mark {
             b'\n' => Mark::Newline,
             b' ' | b'\t' | b'\r' => Mark::Blank,
             b'#' => Mark::Hash,
-            b'0'..=b'9' => Mark::Digit(byte - b'0'),
-            b'A'..=b'F' => Mark::Digit(byte - b'A' + 10),
-            b'a'..=b'f' => Mark::Digit(byte - b'a' + 10),
-            _ => Mark::Other,
+            _ => match char::from(byte).to_digit(16) {
+                Some(digit) => Mark::Digit(digit as u8),
+                None => Mark::Other,
+            },
         }
     }
 }

@@ -44,15 +44,6 @@ loop-offset-preserved c =
           rw (w.mode-is, w.bytes-is, w.in_ok-push-in-Byte.ensures.items) holds
     ]
 
-pub step-requires : goal.step-requires
-step-requires c = c.loop-offset.invariant.1
-
-pub overflow_sub-offset : goal.overflow_sub-offset
-overflow_sub-offset c = omega (arith, c.loop-offset.invariant.2, c.in-Odd.ensures.bound)
-
-pub overflow_sub-text : goal.overflow_sub-text
-overflow_sub-text c = omega (arith, c.loop-offset.invariant.2, ap digits c.in-First.is)
-
 pub returns-in-Odd : goal.returns-in-Odd
 returns-in-Odd c =
     let text = c.args.text.now in
