@@ -1,5 +1,5 @@
 -- Operands that stand one after another: none, one, two parts, and where they stop.
-use Rattle.std.proofs.Common.{◌≡◌, ℕ, zero, suc, ◌+◌, ◌≤◌, Bool, true, false, List, [], ◌∷◌, ◌++◌, length, Ok, sym, refl, ap, ◌∙◌, subst, append_assoc, append-nil, suc-add, zero-add}
+use Rattle.std.proofs.Common.{◌≡◌, ℕ, zero, suc, ◌+◌, ◌≤◌, List, [], ◌∷◌, ◌++◌, length, Ok, sym, refl, ap, ◌∙◌, subst, append_assoc, append-nil, suc-add, zero-add}
 use Rattle.std.proofs.lemmas.List.{map-append}
 use Rattle.refusals.specs.declared.ChangeBufferError.{ChangeBufferError}
 use Rattle.layout.specs.Reads.{Misses, Reads, number_at}
@@ -9,8 +9,7 @@ use Rattle.decode.specs.declared.operand.Field.{Field}
 use Rattle.decode.specs.declared.operand.Operand.{Operand}
 use Rattle.decode.specs.declared.operand.Value.{Value}
 use Rattle.decode.specs.Operands.{field, meant, operand_bytes, size}
-use Rattle.decode.specs.Runs.{Fails, Run, Stand, Stops, asked, counted, operands_bytes, repeated}
-use Rattle.decode.specs.Table.{count}
+use Rattle.decode.specs.Runs.{Fails, Run, Stand, Stops, operands_bytes, repeated}
 use Rattle.decode.proofs.Stands.{kind-meant, stand_join, stand-none, stand_operand}
 
 joined_append : (os ps : List Operand) → operands_bytes (os ++ ps) ≡ operands_bytes os ++ operands_bytes ps
@@ -79,15 +78,3 @@ repeated-more (suc n) fs = append_assoc fs (repeated n fs) fs ∙ ap (λ l. fs +
 pub repeated-split : (n left : ℕ) (fs : List Field) → repeated n fs ++ (fs ++ repeated left fs) ≡ repeated (n + suc left) fs
 repeated-split zero left fs = ap (λ m. repeated m fs) (sym (zero-add (suc left)))
 repeated-split (suc n) left fs = append_assoc fs (repeated n fs) (fs ++ repeated left fs) ∙ ap (λ l. fs ++ l) (repeated-split n left fs) ∙ ap (λ m. repeated m fs) (sym (suc-add n (suc left)))
-
--- what was read before the row's fields, and what is asked for then
-pub record Begun (buffer : List ℕ) (from to : ℕ) (row : Bool × List Field) (times : ℕ) (front : List Operand) : Type 0 where
-  pub had : List Field
-  pub run : Run buffer from to had front
-  pub asks : (more : List Operand) → had ++ repeated times row.1 ≡ asked row (front ++ more)
-
-pub begun-once : (buffer : List ℕ) (place : ℕ) (fields : List Field) → place ≤ length buffer → Begun buffer place place (false, fields) 1 []
-begun-once buffer place fields h = record { had = []; run = run_none buffer place h; asks = λ more. append-nil fields }
-
-pub begun-batch : (buffer : List ℕ) (from to n : ℕ) (fields : List Field) → Run buffer from to (count ∷ []) (counted n ∷ []) → Begun buffer from to (true, fields) n (counted n ∷ [])
-begun-batch buffer from to n fields r = record { had = count ∷ []; run = r; asks = λ more. refl }

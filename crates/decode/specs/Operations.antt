@@ -6,8 +6,6 @@ use Rattle.layout.specs.OpCodes.{code}
 use Rattle.layout.specs.Reads.{Misses, ReadsOperation, number_at}
 use Rattle.decode.specs.declared.error.DecodeError.{DecodeError}
 use Rattle.decode.specs.declared.error.DecodeError.TheVariants as faults
-use Rattle.decode.specs.declared.listing.Ending.{Ending}
-use Rattle.decode.specs.declared.listing.Ending.TheVariants.{Accepted, Refused}
 use Rattle.decode.specs.declared.listing.Listing.{Listing}
 use Rattle.decode.specs.declared.operand.Operand.{Operand}
 use Rattle.decode.specs.declared.operation.Operation.{Operation}
@@ -60,9 +58,9 @@ Follow buffer place [] end = place ≡ end
 Follow buffer place (o ∷ operations) end = (after : ℕ) × Decoded buffer place after o × Follow buffer after operations end
 
 -- after the operations up to a place: all were read and so many bytes are left, or the next is refused
-abbrev pub Ends : List ℕ → ℕ → ℕ → ℕ → Ending → Type 0
-Ends buffer place done count (Accepted rest) = (done ≡ count) × (place + rest ≡ length buffer)
-Ends buffer place done count (Refused e) = (done < count) × ((to : ℕ) × Refuses buffer place to e)
+abbrev pub Ends : List ℕ → ℕ → ℕ → ℕ → Result ℕ ChangeBufferError → Type 0
+Ends buffer place done count (Ok rest) = (done ≡ count) × (place + rest ≡ length buffer)
+Ends buffer place done count (Err e) = (done < count) × ((to : ℕ) × Refuses buffer place to e)
 
 -- the count that is used, the low half of the first eight bytes; the operations from byte 8 on; how they end
 pub record Listed (buffer : List ℕ) (listing : Listing) : Type 0 where

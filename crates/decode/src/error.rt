@@ -8,13 +8,14 @@ use std::alloc::{AllocError, AllocFailed};
 use std::error::Error;
 use std::fmt;
 
-#[derive(Clone, Copy, Debug)]
+#[derive(Clone, Copy, PartialEq, Eq, Debug)]
 pub enum DecodeError {
     // The buffer's own refusal, unchanged.
     Refused(ChangeBufferError),
     Memory,
 }
 
+// This and what follows by hand: a `From` and the words that `thiserror` derives stand in no contract.
 impl From<ChangeBufferError> for DecodeError {
     ghost from_gives = { λ e r. r ≡ case.Refused e };
 

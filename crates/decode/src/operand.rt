@@ -8,7 +8,7 @@ use layout::utils::TraceId;
 use refusals::Result;
 
 // What an operand is called.
-#[derive(Clone, Copy)]
+#[derive(Clone, Copy, PartialEq, Eq, Debug)]
 pub enum Label {
     Trace,
     Segment,
@@ -27,6 +27,7 @@ pub enum Label {
 }
 
 impl Label {
+    // In the words of a listing; the derived `Debug` writes those of the code.
     pub fn name(self) -> &'static str
         ensures value { result.now ≡ label_name self }
     {
@@ -50,7 +51,7 @@ impl Label {
 }
 
 // How an operand lies in the buffer.
-#[derive(Clone, Copy)]
+#[derive(Clone, Copy, PartialEq, Eq, Debug)]
 pub enum Kind {
     Trace,
     Id,
@@ -62,13 +63,13 @@ pub enum Kind {
 }
 
 // An operand that an opcode asks for.
-#[derive(Clone, Copy)]
+#[derive(Clone, Copy, PartialEq, Eq, Debug)]
 pub struct Field {
     pub label: Label,
     pub kind: Kind,
 }
 
-#[derive(Clone, Copy)]
+#[derive(Clone, Copy, PartialEq, Eq, Debug)]
 pub enum Value {
     Trace(TraceId),
     Id(u64),
@@ -81,7 +82,7 @@ pub enum Value {
     Count(u32),
 }
 
-#[derive(Clone, Copy)]
+#[derive(Clone, Copy, PartialEq, Eq, Debug)]
 pub struct Operand {
     pub label: Label,
     pub value: Value,

@@ -20,7 +20,8 @@ pub struct Operation {
     pub operands: Vec<Operand>,
 }
 
-// The operation at `index`, which moves past it; it stays at a read that does not fit.
+// The operation at `index`, which moves past it; it stays at a read that does not fit. The index goes beside the buffer,
+// here and below, as `ChangeBuffer::read` takes it.
 pub fn read_operation(
     heap: Global,
     buffer: &ChangeBuffer,
@@ -50,14 +51,14 @@ fn read_operands(
     ensures cases { ReadsOperands opcode (held buffer.now) index.old index.new result }
 {
     let mut operands = Vec::new(heap);
-    let row = Row::of(opcode);
-    let times = if row.batch {
-        read_count(buffer, index, &mut operands)?
-    } else {
-        1
-    };
-    for _ in 0..times {
-        read_fields(buffer, index, row.fields, &mut operands)?;
+    match Row::of(opcode) {
+        Row::Once(fields) => read_fields(buffer, index, fields, &mut operands)?,
+        Row::Each(fields) => {
+            let times = read_count(buffer, index, &mut operands)?;
+            for _ in 0..times {
+                read_fields(buffer, index, fields, &mut operands)?;
+            }
+        }
     }
     Ok(operands)
 }

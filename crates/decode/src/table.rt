@@ -1,15 +1,18 @@
 // The operands of each opcode.
 ghost use Rattle.std.specs.Prelude.{◌≡◌};
-ghost use Rattle.decode.specs.Table.{each, once, table};
+ghost use Rattle.decode.specs.Table.{table};
+ghost use Rattle.decode.specs.Rows.{shown};
 
 use crate::operand::{Field, Kind, Label};
 use layout::operation::OpCode;
 
-// The operands of an opcode: these once, or, in a batch, these as often as a count in front says.
+// The operands of an opcode.
 #[derive(Clone, Copy)]
-pub struct Row {
-    pub batch: bool,
-    pub fields: &'static [Field],
+pub enum Row {
+    // These once.
+    Once(&'static [Field]),
+    // These as often as a count in front says.
+    Each(&'static [Field]),
 }
 
 const TRACE: Field = Field {
@@ -84,44 +87,26 @@ const ORIGIN: Field = Field {
 
 impl Row {
     pub fn of(opcode: OpCode) -> Row
-        ensures value { (result.batch, result.fields.now) ≡ table opcode }
+        ensures value { shown result ≡ table opcode }
     {
         match opcode {
-            OpCode::Create => once(&[TRACE, SEGMENT, PARENT]),
-            OpCode::SetMetaAttr | OpCode::SetTraceMetaAttr => once(&[KEY, TEXT]),
-            OpCode::SetMetricAttr | OpCode::SetTraceMetricsAttr => once(&[KEY, NUMBER]),
-            OpCode::SetServiceName => once(&[SERVICE]),
-            OpCode::SetResourceName => once(&[RESOURCE]),
-            OpCode::SetError => once(&[ERROR]),
-            OpCode::SetStart => once(&[START]),
-            OpCode::SetDuration => once(&[DURATION]),
-            OpCode::SetType => once(&[TYPE]),
-            OpCode::SetName => once(&[NAME]),
-            OpCode::SetTraceOrigin => once(&[ORIGIN]),
-            OpCode::CreateSpan => once(&[TRACE, SEGMENT, PARENT, NAME, START]),
-            OpCode::CreateSpanFull => once(&[
+            OpCode::Create => Row::Once(&[TRACE, SEGMENT, PARENT]),
+            OpCode::SetMetaAttr | OpCode::SetTraceMetaAttr => Row::Once(&[KEY, TEXT]),
+            OpCode::SetMetricAttr | OpCode::SetTraceMetricsAttr => Row::Once(&[KEY, NUMBER]),
+            OpCode::SetServiceName => Row::Once(&[SERVICE]),
+            OpCode::SetResourceName => Row::Once(&[RESOURCE]),
+            OpCode::SetError => Row::Once(&[ERROR]),
+            OpCode::SetStart => Row::Once(&[START]),
+            OpCode::SetDuration => Row::Once(&[DURATION]),
+            OpCode::SetType => Row::Once(&[TYPE]),
+            OpCode::SetName => Row::Once(&[NAME]),
+            OpCode::SetTraceOrigin => Row::Once(&[ORIGIN]),
+            OpCode::CreateSpan => Row::Once(&[TRACE, SEGMENT, PARENT, NAME, START]),
+            OpCode::CreateSpanFull => Row::Once(&[
                 TRACE, SEGMENT, PARENT, NAME, SERVICE, RESOURCE, TYPE, START,
             ]),
-            OpCode::BatchSetMeta => each(&[KEY, TEXT]),
-            OpCode::BatchSetMetric => each(&[KEY, NUMBER]),
+            OpCode::BatchSetMeta => Row::Each(&[KEY, TEXT]),
+            OpCode::BatchSetMetric => Row::Each(&[KEY, NUMBER]),
         }
-    }
-}
-
-fn once(fields: &'static [Field]) -> Row
-    ensures value { (result.batch, result.fields.now) ≡ once fields.now }
-{
-    Row {
-        batch: false,
-        fields,
-    }
-}
-
-fn each(fields: &'static [Field]) -> Row
-    ensures value { (result.batch, result.fields.now) ≡ each fields.now }
-{
-    Row {
-        batch: true,
-        fields,
     }
 }

@@ -39,7 +39,7 @@ impl fmt::Display for Operation {
         let name = self.opcode.name();
         let span_id = self.span_id;
         write!(f, "{offset:>6}  {name:<19}  span {span_id:<4}")?;
-        for operand in self.operands.iter() {
+        for operand in &self.operands {
             write!(f, "  {operand}")?;
         }
         Ok(())

@@ -1,5 +1,5 @@
 use Rattle.std.proofs.Common.{◌≡◌, ◌+◌, [], ◌∷◌, ◌++◌, get_or, take, drop, vec_items, sym, ap, ◌∙◌, subst, append_assoc, append-nil, take-append-drop}
-use Rattle.std.proofs.lemmas.List.{drop_more, take_more, take_all}
+use Rattle.std.proofs.lemmas.List.{drop_more, take_more}
 use Rattle.std.proofs.lemmas.Result.{err_from_is_err_and}
 use Rattle.layout.specs.Reads.{held}
 use Rattle.decode.specs.declared.operand.Field.{Field}
@@ -8,7 +8,7 @@ use Rattle.decode.specs.declared.operand.Label.TheVariants as labels
 use Rattle.decode.specs.declared.operand.Operand.{Operand}
 use Rattle.decode.specs.declared.operand.Value.{Value}
 use Rattle.decode.specs.Runs.{Run}
-use Rattle.decode.proofs.Runs.{run_join, run_none, run-one, stops-after, stops-here}
+use Rattle.decode.proofs.Runs.{run_join, run-one, stops-after, stops-here}
 use Rattle.decode.proofs.operation.read_fields.Goals as goal
 
 abbrev none : Field
@@ -32,9 +32,6 @@ returns-in_err-value c =
     let whole = ap (λ fs. take n fields ++ fs) (append-nil (drop n fields)) ∙ take-append-drop n fields in
     record { cases = rw (p.1, p.2) (stops-after b c.args.index.now i j (take n fields) (drop n fields) inv.0 (λ _. fields) e inv.2 here (λ _. ([], whole))) }
 
-pub loop-field-init : goal.loop-field-init
-loop-field-init c = ([], sym (append-nil (vec_items c.args.operands.now)), run_none (held c.args.buffer.now) c.args.index.now c.requires.within)
-
 pub loop-field-preserved : goal.loop-field-preserved
 loop-field-preserved c =
     let b = held c.args.buffer.now in
@@ -50,11 +47,3 @@ loop-field-preserved c =
     let items : vec_items c.push.new.self ≡ vec_items c.args.operands.now ++ (inv.0 ++ read f v ∷ []) = c.in_ok-push.ensures.items ∙ ap (λ os. os ++ read f v ∷ []) inv.1 ∙ append_assoc (vec_items c.args.operands.now) inv.0 (read f v ∷ []) in
     let more = take_more fields n none c.loop-field-test.true in
     (inv.0 ++ read f v ∷ [], items, subst (λ fs. Run b c.args.index.now j fs (inv.0 ++ read f v ∷ [])) (sym more) run)
-
-pub returns : goal.returns
-returns c =
-    let b = held c.args.buffer.now in
-    let fields = c.args.fields.now in
-    let inv = c.loop-field.invariant in
-    let all = take_all c.loop-field.field-index fields c.loop-field-test.false in
-    record { cases = (inv.0, inv.1, subst (λ fs. Run b c.args.index.now c.loop-field.index fs inv.0) all inv.2) }

@@ -7,4 +7,4 @@ use Rattle.decode.proofs.operation.read_operands.Given as goal
 abbrev pub invariant-loop : goal.invariant-loop
 invariant-loop l =
     (more : List Operand) × (vec_items l.operands ≡ vec_items l.initial.operands ++ more)
-    × Run (held l.buffer) l.initial.index l.index (repeated l.counter l.row.fields.now) more
+    × Run (held l.buffer) l.initial.index l.index (repeated l.counter l.fields) more

@@ -1,4 +1,3 @@
-use Rattle.std.proofs.Common.{inl}
 use Rattle.std.proofs.lemmas.Result.{err_from_is_err_and}
 use Rattle.layout.specs.Reads.{held}
 use Rattle.decode.proofs.Follows.{broken, decoded}
@@ -10,11 +9,6 @@ returns c =
     let head = c.in_ok-head.head in
     let got = c.in_ok-head.ensures.cases in
     record { cases = decoded b c.args.index.now c.from_buf.new.index head got c.read_operands.new.index c.in_ok-operands.operands c.in_ok-operands.ensures.cases }
-
-pub returns-in_err-head : goal.returns-in_err-head
-returns-in_err-head c =
-    let p = err_from_is_err_and c.from_residual.result c.from_residual.ensures.1 in
-    record { cases = rw (p.1, p.2) (inl c.in_err-head.ensures.cases) }
 
 pub returns-in_err-operands : goal.returns-in_err-operands
 returns-in_err-operands c =
