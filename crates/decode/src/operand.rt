@@ -94,13 +94,13 @@ impl Value {
         ensures cases { Reads (meant kind) (size kind) (held buffer.now) index.old index.new result }
     {
         match kind {
-            Kind::Trace => Ok(Value::Trace(buffer.read(index)?)),
-            Kind::Id => Ok(Value::Id(buffer.read(index)?)),
-            Kind::Text => Ok(Value::Text(buffer.read(index)?)),
-            Kind::Float => Ok(Value::Float(buffer.read(index)?)),
-            Kind::Long => Ok(Value::Long(buffer.read(index)?)),
-            Kind::Int => Ok(Value::Int(buffer.read(index)?)),
-            Kind::Count => Ok(Value::Count(buffer.read(index)?)),
+            Kind::Trace => buffer.read(index).map(Value::Trace),
+            Kind::Id => buffer.read(index).map(Value::Id),
+            Kind::Text => buffer.read(index).map(Value::Text),
+            Kind::Float => buffer.read(index).map(Value::Float),
+            Kind::Long => buffer.read(index).map(Value::Long),
+            Kind::Int => buffer.read(index).map(Value::Int),
+            Kind::Count => buffer.read(index).map(Value::Count),
         }
     }
 }

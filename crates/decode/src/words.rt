@@ -7,11 +7,7 @@ use std::num::f64_from_bits_with_nan;
 impl fmt::Display for Value {
     fn fmt<W: fmt::Write>(&self, f: &mut fmt::Formatter<W>) -> fmt::Result {
         match self {
-            Value::Trace(trace) => {
-                let high = trace.high;
-                let low = trace.low;
-                write!(f, "0x{high:016x}{low:016x}")
-            }
+            Value::Trace(trace) => write!(f, "0x{:016x}{:016x}", trace.high, trace.low),
             Value::Id(id) => fmt::Display::fmt(id, f),
             Value::Text(string) => write!(f, "string {string}"),
             Value::Float(bits) => {
@@ -27,18 +23,19 @@ impl fmt::Display for Value {
 
 impl fmt::Display for Operand {
     fn fmt<W: fmt::Write>(&self, f: &mut fmt::Formatter<W>) -> fmt::Result {
-        let label = self.label.name();
-        let value = self.value;
-        write!(f, "{label} {value}")
+        write!(f, "{} {}", self.label.name(), self.value)
     }
 }
 
 impl fmt::Display for Operation {
     fn fmt<W: fmt::Write>(&self, f: &mut fmt::Formatter<W>) -> fmt::Result {
-        let offset = self.offset;
-        let name = self.opcode.name();
-        let span_id = self.span_id;
-        write!(f, "{offset:>6}  {name:<19}  span {span_id:<4}")?;
+        write!(
+            f,
+            "{:>6}  {:<19}  span {:<4}",
+            self.offset,
+            self.opcode.name(),
+            self.span_id
+        )?;
         for operand in &self.operands {
             write!(f, "  {operand}")?;
         }

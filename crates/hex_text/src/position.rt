@@ -33,8 +33,7 @@ impl fmt::Display for Position {
     ghost output = { λ p. Some (place_words p) };
 
     fn fmt<W: fmt::Write>(&self, f: &mut fmt::Formatter<W>) -> fmt::Result {
-        let line = self.line;
-        let column = self.column;
+        let Position { line, column } = self;
         write!(f, "line {line}, column {column}")
     }
 }
