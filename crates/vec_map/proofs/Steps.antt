@@ -1,29 +1,12 @@
 -- The steps of the loops over a row.
 use Rattle.std.proofs.Common.{◌≡◌, ℕ, ◌+◌, ◌-◌, ◌<◌, ◌≤◌, Bool, true, false, ◌||◌, List, [], ◌∷◌, ◌++◌, length, get_or, take, drop, set, sym, refl, ap, ◌∙◌, arith, length-take}
 use Rattle.std.proofs.lemmas.List.{drop_all, drop_more, get_or-drop, take_more_set, drop-set-lt, append_assoc, append-nil, take-append-drop, drop-drop}
+use Rattle.std.proofs.Math.Bool.{or-false}
+use Rattle.std.proofs.lemmas.List.Folds.{list_any-append}
 use Rattle.vec_map.specs.Rows.{known, firsts}
 
-or_false : (b : Bool) → (b || false) ≡ b
-or_false true = refl
-or_false false = refl
-
-or_or : (a b c : Bool) → (a || (b || c)) ≡ ((a || b) || c)
-or_or true b c = refl
-or_or false b c = refl
-
-pub or_true : (a b : Bool) → b ≡ true → (a || b) ≡ true
-or_true true b e = refl
-or_true false b e = e
-
-pub or_left : (a b : Bool) → a ≡ true → (a || b) ≡ true
-or_left true b e = refl
-or_left false b e = let z : ◌≡◌ {A = Bool} false true = e in cc
-
-module _ {K V : Type 0} (same : K → K → Bool) (k : K) where
-  pub known_push : (xs : List (K × V)) (p : K × V) → known same k (xs ++ p ∷ []) ≡ (known same k xs || same p.0 k)
-  known_push [] p = or_false (same p.0 k)
-  known_push (q ∷ xs) p =
-      ap (λ b. same q.0 k || b) (known_push xs p) ∙ or_or (same q.0 k) (known same k xs) (same p.0 k)
+pub known_push : {K V : Type 0} (same : K → K → Bool) (k : K) (xs : List (K × V)) (p : K × V) → known same k (xs ++ p ∷ []) ≡ (known same k xs || same p.0 k)
+known_push same k xs p = list_any-append (λ q. same q.0 k) xs (p ∷ []) ∙ ap (λ b. known same k xs || b) (or-false (same p.0 k))
 
 module _ {K V : Type 0} (same : K → K → Bool) where
   firsts-known : (ks rest : List (K × V)) (x : K × V) → known same x.0 ks ≡ true → firsts same ks (x ∷ rest) ≡ firsts same ks rest

@@ -1,6 +1,7 @@
 -- A row of pairs: its memory, how many pairs of it count, and its mark; the value of a key, and what each change leaves.
-use Rattle.std.specs.Prelude.{◌≡◌, ℕ, ◌+◌, Bool, true, false, cond, List, [], ◌∷◌, ◌++◌, reverse, length, take, drop, Some, None, Ok, Err, Option, Result, nat_le, slice_set}
+use Rattle.std.specs.Prelude.{◌≡◌, ℕ, ◌+◌, Bool, true, false, if◌then◌else◌, cond, List, [], ◌∷◌, ◌++◌, reverse, length, take, drop, Some, None, Ok, Err, Option, Result, nat_le, slice_set}
 use Rattle.std.specs.List.{list_any}
+use Rattle.std.specs.Option.{option_or}
 
 -- what the sameness of keys is held to
 pub record Equivalence {K : Type 0} (same : K → K → Bool) : Type 0 where
@@ -8,15 +9,10 @@ pub record Equivalence {K : Type 0} (same : K → K → Bool) : Type 0 where
   pub either : (a b : K) → same a b ≡ same b a
   pub onward : (a b c : K) → same a b ≡ true → same b c ≡ true → same a c ≡ true
 
--- the first, where it is there, else the second
-abbrev pub or_else : {V : Type 0} → Option V → Option V → Option V
-or_else None o = o
-or_else (Some v) o = Some v
-
 -- the value of the last pair with the key k
 abbrev pub last_value : {K V : Type 0} → (K → K → Bool) → K → List (K × V) → Option V
 last_value same k [] = None
-last_value same k (p ∷ ps) = or_else (last_value same k ps) (cond (same p.0 k) (Some p.1) None)
+last_value same k (p ∷ ps) = option_or (last_value same k ps) (if same p.0 k then Some p.1 else None)
 
 -- k is one of the keys
 abbrev pub known : {K V : Type 0} → (K → K → Bool) → K → List (K × V) → Bool
