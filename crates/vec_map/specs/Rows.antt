@@ -1,5 +1,5 @@
 -- A row of pairs: its memory, how many pairs of it count, and its mark; the value of a key, and what each change leaves.
-use Rattle.std.specs.Prelude.{◌≡◌, ℕ, ◌+◌, Bool, true, false, if◌then◌else◌, cond, List, [], ◌∷◌, ◌++◌, reverse, length, take, drop, Some, None, Ok, Err, Option, Result, nat_le, slice_set}
+use Rattle.std.specs.Prelude.{◌≡◌, ℕ, ◌+◌, Bool, true, false, if◌then◌else◌, List, [], ◌∷◌, ◌++◌, reverse, length, take, drop, Some, None, Ok, Err, Option, Result, nat_le, slice_set}
 use Rattle.std.specs.List.{list_any}
 use Rattle.std.specs.Option.{option_or}
 
@@ -21,7 +21,7 @@ known same k ps = list_any (λ p. same p.0 k) ps
 -- each key's first pair, in order, leaving out the keys that stand in `kept`
 abbrev pub firsts : {K V : Type 0} → (K → K → Bool) → List (K × V) → List (K × V) → List (K × V)
 firsts same kept [] = []
-firsts same kept (p ∷ ps) = cond (known same p.0 kept) (firsts same kept ps) (p ∷ firsts same (kept ++ p ∷ []) ps)
+firsts same kept (p ∷ ps) = if known same p.0 kept then firsts same kept ps else p ∷ firsts same (kept ++ p ∷ []) ps
 
 -- pairs without repeated keys: reversed, then each key's first pair
 abbrev pub without_repeats : {K V : Type 0} → (K → K → Bool) → List (K × V) → List (K × V)
@@ -54,11 +54,11 @@ full r = nat_le (length r.room) r.len
 
 -- one pair more at the end, the mark cleared; a full row as it is
 unfoldable pub insert_row : {K V : Type 0} → Row K V → K → V → Row K V
-insert_row r k v = cond (full r) r (record { room = slice_set r.room r.len (k, v); len = r.len + 1; deduped = false })
+insert_row r k v = if full r then r else record { room = slice_set r.room r.len (k, v); len = r.len + 1; deduped = false }
 
 -- a full row hands the pair back
 unfoldable pub insert_answer : {K V : Type 0} → Row K V → K → V → Result (Unit {0}) (K × V)
-insert_answer r k v = cond (full r) (Err (k, v)) (Ok tt)
+insert_answer r k v = if full r then Err (k, v) else Ok tt
 
 -- no pairs, the mark kept
 abbrev pub clear_row : {K V : Type 0} → Row K V → Row K V
@@ -71,5 +71,5 @@ mark_row r = record { room = r.room; len = r.len; deduped = true }
 -- a marked row as it is; another without repeats, and marked
 abbrev pub dedup_row : {K V : Type 0} → (K → K → Bool) → Row K V → Row K V
 dedup_row same r =
-    cond r.deduped r
-    (record { room = deduped_room same r.len r.room; len = length (without_repeats same (items r)); deduped = true })
+    if r.deduped then r
+    else record { room = deduped_room same r.len r.room; len = length (without_repeats same (items r)); deduped = true }
