@@ -1,6 +1,6 @@
 -- What holds of every call.
-use Rattle.std.proofs.Common.{◌≡◌, Bool, false, Decides, sym, refl, ◌∙◌}
-use Rattle.tables.proofs.Deciding.{apart}
+use Rattle.std.proofs.Common.{◌≡◌, Bool, false, Decides, refl}
+use Rattle.std.proofs.lemmas.Bool.{iff_false}
 use Rattle.book.specs.Book.{Text}
 use Rattle.book.specs.Calls.{Call}
 use Rattle.book.specs.Refusals.{because, out_of_order, refused}
@@ -14,4 +14,4 @@ turned-away bytes call m n = record { untouched = λ _. (refl, refl); shows = λ
 
 -- the question was answered no
 pub no_order : {P : Type 0} (r : Bool) → r ≡ false → Decides r P → P → ⊥
-no_order r e d p = apart (sym e ∙ d.1 p)
+no_order r e d p = iff_false d e p

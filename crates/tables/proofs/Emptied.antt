@@ -10,7 +10,7 @@ use Rattle.tables.specs.declared.span.Span.{Span}
 use Rattle.tables.specs.declared.segment.Segment.{Segment}
 use Rattle.tables.specs.Store.{Store, tally, is_live, is_handed, handed, live_key, standing_key}
 use Rattle.tables.specs.InOrder.{InOrder, Sized, KeptIn, Within, SpanLimits, SegmentLimits}
-use Rattle.tables.proofs.Deciding.{apart}
+use Rattle.std.proofs.lemmas.Bool.{false≢true}
 use Rattle.tables.proofs.Places.{chained-there}
 use Rattle.tables.specs.Shows.{Shows, Shown, LikeSpan, LikeSegment, string_of, string_at, setup_of, live_view, handed_view, segment_view}
 
@@ -58,7 +58,7 @@ module _ {T : Type 0} (bytes : T → Text) (m : Store T) (sized : Sized m)
     segments =
         no_keys standing_key SegmentLimits m.segments m.seats no-seats
         (λ k x e. ap (λ n. cond (ltb 0 n) (Some x.id) None) (ended k x e))
-        (λ k x e up. absurd (apart (sym (ap (ltb 0) (ended k x e)) ∙ up)));
+        (λ k x e up. absurd (false≢true (sym (ap (ltb 0) (ended k x e)) ∙ up)));
   }
 
   no_handed : (k : ℕ) → handed_view m k ≡ None

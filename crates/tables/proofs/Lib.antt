@@ -1,5 +1,4 @@
 pub mod Places
-pub mod Deciding
 pub mod Writings
 pub mod Gathered
 pub mod Booked

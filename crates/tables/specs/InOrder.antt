@@ -1,8 +1,10 @@
 -- When the tables are in order: a matter of memory alone.
-use Rattle.std.specs.Prelude.{◌≡◌, ℕ, ◌*◌, ◌≤◌, true, List, length, Some, Option}
+use Rattle.std.specs.Prelude.{◌≡◌, ℕ, ◌*◌, ◌≤◌, true, List, length, Some, Ok, Err, Option, Result}
 use Rattle.std.specs.List.{slice_get}
 use Rattle.index.specs.declared.entry.Entry.{Entry}
 use Rattle.index.specs.Holding.{Holds}
+use Rattle.refusals.specs.declared.ChangeBufferError.{ChangeBufferError}
+use Rattle.refusals.specs.declared.ChangeBufferError.TheVariants.{OutOfOrder}
 use Rattle.book.specs.Limits.{most_spans, most_segments, most_strings, most_defaults, span_text_limit, span_number_limit, segment_text_limit, segment_number_limit, span_text_row, span_number_row, most_count}
 use Rattle.tables.specs.declared.span.Mark.{Mark}
 use Rattle.tables.specs.declared.span.Mark.TheVariants.{Free, Live, HandedOut}
@@ -58,3 +60,8 @@ module _ {T : Type 0} where
     pub span_lengths : Lengths most_spans span_text_row span_number_row (length m.spans) (length m.span_meta) (length m.span_metrics) m.ids_room
     pub segment_lengths : Lengths most_segments segment_text_limit segment_number_limit (length m.segments) (length m.segment_meta) (length m.segment_metrics) m.seats_room
     pub others : OthersInOrder (length m.strings) (length m.defaults) 0
+
+  -- accepted where the tables are in order, and refused with 1 where they are not
+  abbrev pub IsInOrder : Store T → Result (Unit {0}) ChangeBufferError → Type 0
+  IsInOrder m (Ok x) = InOrder m
+  IsInOrder m (Err e) = (InOrder m → ⊥) × (e ≡ OutOfOrder)

@@ -1,21 +1,35 @@
 // Records with an index over them: the question whether each keeps its limits and the index holds just those in use.
-ghost use Rattle.std.specs.Prelude.{◌≡◌, ℕ, ◌≤◌, length, Some, Option as Maybe, ◌↔◌, IsTrue};
-ghost use Rattle.index.specs.Held.{at};
+ghost use Rattle.std.specs.Prelude.{◌≡◌, ℕ, Option as Maybe, ◌↔◌, IsTrue};
+ghost use Rattle.book.specs.Limits.{most_spans, most_segments, segment_text_limit, segment_number_limit, span_text_row, span_number_row};
 ghost use Rattle.tables.specs.InOrder.{KeptIn, SpanLimits, SegmentLimits};
 ghost use Rattle.tables.specs.Store.{live_key, standing_key};
 
 use crate::segment::Segment;
-use crate::span::{Mark, Span};
+use crate::span::{Mark, NUMBER_LIMIT, Span, TEXT_LIMIT};
 use index::Index;
 use texts::Text;
 
 // A record of a table that an index goes over.
 pub trait Record {
+    ghost MOST: { ℕ };
+
+    ghost TEXT_ROW: { ℕ };
+
+    ghost NUMBER_ROW: { ℕ };
+
     // The id under which the index has to hold it, none where it is not in use.
     ghost key_of: { Self → Maybe ℕ };
 
     // What its counts are held to.
     ghost limits: { Self → Type 0 };
+
+    // How many records a table may have.
+    const MOST: usize;
+
+    // How many text pairs the row of one record takes, and how many number pairs.
+    const TEXT_ROW: usize;
+
+    const NUMBER_ROW: usize;
 
     fn key(&self) -> Option<u64>
         ensures { result ≡ key_of self.now };
@@ -25,9 +39,21 @@ pub trait Record {
 }
 
 impl<T: Text> Record for Span<T> {
+    ghost MOST = { most_spans };
+
+    ghost TEXT_ROW = { span_text_row };
+
+    ghost NUMBER_ROW = { span_number_row };
+
     ghost key_of = { live_key };
 
     ghost limits = { SpanLimits };
+
+    const MOST: usize = 4096;
+
+    const TEXT_ROW: usize = 99;
+
+    const NUMBER_ROW: usize = 54;
 
     fn key(&self) -> Option<u64> {
         match self.mark {
@@ -39,30 +65,39 @@ impl<T: Text> Record for Span<T> {
     fn keeps_limits(&self) -> bool {
         match self.mark {
             Mark::Free => true,
-            Mark::Live => within(self.meta.count, 64) && within(self.metrics.count, 32),
-            Mark::HandedOut => within(self.meta.count, 99) && within(self.metrics.count, 54),
+            Mark::Live => self.meta.count <= TEXT_LIMIT && self.metrics.count <= NUMBER_LIMIT,
+            Mark::HandedOut => {
+                self.meta.count <= Self::TEXT_ROW && self.metrics.count <= Self::NUMBER_ROW
+            }
         }
     }
 }
 
 impl<T: Text> Record for Segment<T> {
+    ghost MOST = { most_segments };
+
+    ghost TEXT_ROW = { segment_text_limit };
+
+    ghost NUMBER_ROW = { segment_number_limit };
+
     ghost key_of = { standing_key };
 
     ghost limits = { SegmentLimits };
+
+    const MOST: usize = 256;
+
+    const TEXT_ROW: usize = 32;
+
+    const NUMBER_ROW: usize = 16;
 
     fn key(&self) -> Option<u64> {
         if self.count > 0 { Some(self.id) } else { None }
     }
 
     fn keeps_limits(&self) -> bool {
-        self.count == 0 || (within(self.meta.count, 32) && within(self.metrics.count, 16))
+        self.count == 0
+            || (self.meta.count <= Self::TEXT_ROW && self.metrics.count <= Self::NUMBER_ROW)
     }
-}
-
-pub(crate) fn within(count: usize, most: usize) -> bool
-    ensures { IsTrue result ↔ (count ≤ most) }
-{
-    count <= most
 }
 
 // Whether each record keeps its limits, and the index holds the keys of those in use and nothing else. It goes once over
@@ -71,29 +106,16 @@ pub fn kept_in<R: Record, I: Index>(records: &[R], index: &I) -> bool
     ensures { IsTrue result ↔ (KeptIn R.key_of R.limits records.now (I.content index.now).held) }
 {
     let mut used: usize = 0;
-    for i in 0..records.len() {
-        let record = &records[i];
+    for (i, record) in records.iter().enumerate() {
         if !record.keeps_limits() {
             return false;
         }
         if let Some(id) = record.key() {
-            if !finds(index, id, i) {
+            if index.find(id) != Some(i) {
                 return false;
             }
             used += 1;
         }
     }
-    counts(index, used)
-}
-
-fn finds<I: Index>(index: &I, id: u64, number: usize) -> bool
-    ensures { IsTrue result ↔ (at (I.content index.now).held id ≡ Some number) }
-{
-    index.find(id) == Some(number)
-}
-
-fn counts<I: Index>(index: &I, used: usize) -> bool
-    ensures { IsTrue result ↔ (length (I.content index.now).held ≡ used) }
-{
     index.count() == used
 }

@@ -46,7 +46,7 @@ pub fn reset_all<R: Reset>(table: &mut [R])
     ensures len { length table.new ≡ length table.old }
     ensures items { (k : ℕ) (x : R) → slice_get table.new k ≡ Some x → R.empty x }
 {
-    for i in 0..table.len() {
-        table[i].reset();
+    for place in table {
+        place.reset();
     }
 }

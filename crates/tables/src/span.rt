@@ -10,6 +10,11 @@ pub enum Mark {
     HandedOut,
 }
 
+// How many text pairs and number pairs operations may write to a span. A chunk's tags fit into its rows besides.
+pub const TEXT_LIMIT: usize = 64;
+
+pub const NUMBER_LIMIT: usize = 32;
+
 // A span: one belt, scanner or diverter on a parcel's trip. Its pairs stand in the rows of its number, as many as the
 // heads say. What is asked of every record comes first, so that it lies close together.
 #[derive(Drop)]

@@ -1,7 +1,13 @@
 // The tables that a caller lends to a call.
 use crate::span::Span;
 
-// All tables but the segments, whose records hold floats and are lent beside these. A call takes it apart at once.
+pub const MOST_STRINGS: usize = 65536;
+
+// How many pairs the table of default pairs has.
+pub const MOST_DEFAULTS: usize = 32;
+
+// All tables but the segments. Segment records hold floats and indexes come in kinds, so a call is lent segments,
+// settings and both indexes each as its own parameter beside these: a fixed form.
 #[derive(Drop)]
 pub struct Tables<'a, T> {
     pub spans: &'a mut [Span<T>],
