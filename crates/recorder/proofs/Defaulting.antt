@@ -12,7 +12,7 @@ use Rattle.tables.specs.InOrder.{InOrder}
 use Rattle.tables.specs.Shows.{Shows, text_pair}
 use Rattle.recorder.specs.Answers.{answer}
 use Rattle.recorder.specs.Defaults.{with_count, with_defaults, Replaces, replaced}
-use Rattle.recorder.specs.Performs.{Performs}
+use Rattle.recorder.specs.Performs.{Changes}
 
 module _ {T : Type 0} (bytes : T → Text) where
   defaults-shown : (m : Store T) (pairs : List (T × T)) (b : Book) → length pairs ≤ 32 → Shows bytes m b
@@ -59,6 +59,8 @@ module _ {T : Type 0} (bytes : T → Text) where
   replace_after m pairs ds t (Err e) i = rw (i.2, i.3)
 
   pub replacing : (m : Store T) (pairs ds : List (T × T)) (t : Settings T) (r : Result (Unit {0}) ChangeBufferError) → InOrder m → Replaces pairs m.defaults ds m.settings t r
-      → Performs bytes (default_meta (map (text_pair bytes) pairs)) m (with_defaults ds t m) (answer r) × (with_defaults ds t m ≡ replaced pairs r m)
-  replacing m pairs ds t r o i =
-      (record { untouched = λ n. absurd (n o); shows = replace_shows m pairs ds t r i }, replace_after m pairs ds t r i)
+      → Changes bytes (default_meta (map (text_pair bytes) pairs)) (replaced pairs r) m (with_defaults ds t m) (answer r)
+  replacing m pairs ds t r o i = record {
+    call = record { untouched = λ n. absurd (n o); shows = replace_shows m pairs ds t r i };
+    after = replace_after m pairs ds t r i;
+  }

@@ -1,23 +1,23 @@
 -- The calls on the string table against the plain book.
-use Rattle.std.proofs.Common.{◌≡◌, ℕ, ◌<◌, ◌≤◌, true, false, ltb, List, length, set, Some, None, Ok, Err, Option, Result, sym, refl, ap, ◌∙◌, subst, inl, inr, length-set, le-ltb, lt-ltb}
+use Rattle.std.proofs.Common.{◌≡◌, ℕ, ◌<◌, ◌≤◌, true, false, ltb, List, length, set, Some, None, Ok, Err, Option, sym, refl, ap, ◌∙◌, subst, inl, inr, length-set, le-ltb, lt-ltb}
 use Rattle.std.proofs.lemmas.List.{set_past}
 use Rattle.std.proofs.lemmas.Option.{slice_get_past}
 use Rattle.std.proofs.lemmas.Bool.{cases_eq, cases_lt}
 use Rattle.std.specs.List.{slice_get}
 use Rattle.refusals.specs.declared.ChangeBufferError.{ChangeBufferError}
+use Rattle.refusals.specs.declared.ChangeBufferError.TheVariants.{KeyBeyond}
 use Rattle.book.specs.Maps.{Map, find, put, remove}
 use Rattle.book.specs.Book.{Text, Setup, Book}
 use Rattle.book.specs.Book as book
-use Rattle.book.specs.Calls.{string_insert, string_evict, step}
-use Rattle.book.specs.Refusals.{accepted}
+use Rattle.book.specs.Calls.{string_insert, string_evict}
+use Rattle.book.specs.Refusals.{because, key_beyond, accepted, refused}
 use Rattle.book.proofs.Maps.{find-put, find-put-other, find-remove, find-remove-other, remove_absent}
 use Rattle.tables.specs.Store.{Store}
 use Rattle.tables.specs.InOrder.{InOrder, OthersInOrder}
 use Rattle.tables.specs.Shows.{Shows, string_of, string_at}
 use Rattle.tables.proofs.Places.{nth_set-same, nth_set-other}
-use Rattle.recorder.specs.Answers.{answer}
-use Rattle.recorder.specs.Performs.{Performs}
-use Rattle.recorder.specs.Strings.{with_strings, written, Inserts}
+use Rattle.recorder.specs.Performs.{Changes}
+use Rattle.recorder.specs.Strings.{with_strings, written}
 
 -- a string table of the same length
 module _ {T : Type 0} (m : Store T) (ss : List (Option T)) (e : length ss ≡ length m.strings) where
@@ -59,29 +59,30 @@ module _ {T : Type 0} (bytes : T → Text) where
   table-length : (m : Store T) (b : Book) → Shows bytes m b → b.setup.strings ≡ length m.strings
   table-length m b s = ap (λ u. u.strings) (sym s.setup)
 
-  insert-shows : (m : Store T) (k : ℕ) (t : T) (after : List (Option T)) (r : Result (Unit {0}) ChangeBufferError) → Inserts m.strings after k (Some t) r
-      → (b : Book) → Shows bytes m b → Shows bytes (with_strings after m) (step (string_insert k (bytes t)) b).0 × (answer r ≡ (step (string_insert k (bytes t)) b).1)
-  insert-shows m k t after (Ok x) i b s =
-      let test : ltb k b.setup.strings ≡ true = lt-ltb k b.setup.strings (subst (λ (n : ℕ). k < n) (sym (table-length m b s)) i.0) in
-      let same = write-there m.strings b.strings (put k (bytes t) b.strings) k (Some t) i.0 s.strings (find-put k (bytes t) b.strings) (λ j n. find-put-other k j (bytes t) b.strings n) in
-      rw test (
-        subst (λ (ss : List (Option T)). Shows bytes (with_strings ss m) (book.with_strings (put k (bytes t) b.strings) b)) (sym i.1)
-            (strings-shown m (set m.strings k (Some t)) (length-set m.strings k (Some t)) bytes b (put k (bytes t) b.strings) s same),
-        refl,
-      )
-  insert-shows m k t after (Err e) i b s =
-      let test : ltb k b.setup.strings ≡ false = le-ltb k b.setup.strings (subst (λ (n : ℕ). n ≤ k) (sym (table-length m b s)) i.0) in
-      rw test (subst (λ (ss : List (Option T)). Shows bytes (with_strings ss m) b) (sym i.2) s, ap (λ x. answer (Err x)) i.1)
+  pub inserted : (m : Store T) (k : ℕ) (t : T) → InOrder m → k < length m.strings
+      → Changes bytes (string_insert k (bytes t)) (written {E = ChangeBufferError} k (Some t) (Ok tt)) m (with_strings (set m.strings k (Some t)) m) accepted
+  inserted m k t o lt = record {
+    call = record {
+      untouched = λ n. absurd (n o);
+      shows = λ b s.
+          let test : ltb k b.setup.strings ≡ true = lt-ltb k b.setup.strings (subst (λ (n : ℕ). k < n) (sym (table-length m b s)) lt) in
+          let same = write-there m.strings b.strings (put k (bytes t) b.strings) k (Some t) lt s.strings (find-put k (bytes t) b.strings) (λ j n. find-put-other k j (bytes t) b.strings n) in
+          rw test (strings-shown m (set m.strings k (Some t)) (length-set m.strings k (Some t)) bytes b (put k (bytes t) b.strings) s same, refl);
+    };
+    after = refl;
+  }
 
-  insert-after : (m : Store T) (k : ℕ) (t : T) (after : List (Option T)) (r : Result (Unit {0}) ChangeBufferError) → Inserts m.strings after k (Some t) r
-      → with_strings after m ≡ written k (Some t) r m
-  insert-after m k t after (Ok x) i = ap (λ ss. with_strings ss m) i.1
-  insert-after m k t after (Err e) i = ap (λ ss. with_strings ss m) i.2
-
-  pub inserted : (m : Store T) (k : ℕ) (t : T) (after : List (Option T)) (r : Result (Unit {0}) ChangeBufferError) → InOrder m → Inserts m.strings after k (Some t) r
-      → Performs bytes (string_insert k (bytes t)) m (with_strings after m) (answer r) × (with_strings after m ≡ written k (Some t) r m)
-  inserted m k t after r o i =
-      (record { untouched = λ n. absurd (n o); shows = insert-shows m k t after r i }, insert-after m k t after r i)
+  pub beyond : (m : Store T) (k : ℕ) (t : T) → InOrder m → length m.strings ≤ k
+      → Changes bytes (string_insert k (bytes t)) (written k (Some t) (Err KeyBeyond)) m m (refused (because key_beyond))
+  beyond m k t o le = record {
+    call = record {
+      untouched = λ n. absurd (n o);
+      shows = λ b s.
+          let test : ltb k b.setup.strings ≡ false = le-ltb k b.setup.strings (subst (λ (n : ℕ). n ≤ k) (sym (table-length m b s)) le) in
+          rw test (s, refl);
+    };
+    after = refl;
+  }
 
   -- past the end there is nothing to take out
   none-there : (m : Store T) (b : Book) (k : ℕ) → Shows bytes m b → length m.strings ≤ k → remove k b.strings ≡ b.strings
@@ -95,15 +96,15 @@ module _ {T : Type 0} (bytes : T → Text) where
       ]
 
   pub evicted : (m : Store T) (k : ℕ) (after : List (Option T)) → InOrder m → after ≡ set m.strings k None
-      → Performs bytes (string_evict k) m (with_strings after m) accepted × (with_strings after m ≡ with_strings (set m.strings k None) m)
-  evicted m k after o e = (
-    record {
+      → Changes bytes (string_evict k) (written {E = ChangeBufferError} k None (Ok tt)) m (with_strings after m) accepted
+  evicted m k after o e = record {
+    call = record {
       untouched = λ n. absurd (n o);
       shows = λ b s. (
         subst (λ (ss : List (Option T)). Shows bytes (with_strings ss m) (book.with_strings (remove k b.strings) b)) (sym e)
             (strings-shown m (set m.strings k None) (length-set m.strings k None) bytes b (remove k b.strings) s (evict-strings m b k s)),
         refl,
       );
-    },
-    ap (λ ss. with_strings ss m) e,
-  )
+    };
+    after = ap (λ ss. with_strings ss m) e;
+  }

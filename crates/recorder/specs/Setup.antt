@@ -3,7 +3,6 @@ use Rattle.std.specs.Prelude.{◌≡◌, ℕ, length, Ok, Err, Result}
 use Rattle.refusals.specs.declared.ChangeBufferError.{ChangeBufferError}
 use Rattle.refusals.specs.declared.ChangeBufferError.TheVariants.{OutOfOrder}
 use Rattle.book.specs.Book.{Text, Setup, new_book}
-use Rattle.tables.specs.declared.settings.Settings.{Settings}
 use Rattle.tables.specs.Store.{Store}
 use Rattle.tables.specs.InOrder.{Sized}
 use Rattle.tables.specs.Shows.{Shows}
@@ -18,10 +17,6 @@ told_of bytes s l p m = record {
   segments = length m.segments;
   strings = length m.strings;
 }
-
--- the settings afterwards
-abbrev pub fresh : {T : Type 0} → (service language : T) → (pid : ℕ) → Settings T
-fresh s l p = record { service = s; language = l; pid = p; defaults = 0; next_free = 0 }
 
 -- pairs, default pairs and capacities stay as they were
 pub record RowsStay {T : Type 0} (before after : Store T) : Type 0 where

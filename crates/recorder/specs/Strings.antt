@@ -1,7 +1,5 @@
 -- The string table after the calls on it.
-use Rattle.std.specs.Prelude.{◌≡◌, ℕ, ◌<◌, ◌≤◌, List, length, Ok, Err, Option, Result, slice_set}
-use Rattle.refusals.specs.declared.ChangeBufferError.{ChangeBufferError}
-use Rattle.refusals.specs.declared.ChangeBufferError.TheVariants.{KeyBeyond}
+use Rattle.std.specs.Prelude.{ℕ, List, Ok, Err, Option, Result, slice_set}
 use Rattle.tables.specs.Store.{Store, store}
 
 -- the memory with another string table
@@ -12,8 +10,3 @@ with_strings ss m = store m.spans m.span_meta m.span_metrics m.segments m.segmen
 abbrev pub written : {T E : Type 0} → ℕ → Option T → Result (Unit {0}) E → Store T → Store T
 written k t (Ok x) m = with_strings (slice_set m.strings k t) m
 written k t (Err e) m = m
-
--- a string under a number of the table; refused past its end
-abbrev pub Inserts : {T : Type 0} → List (Option T) → List (Option T) → ℕ → Option T → Result (Unit {0}) ChangeBufferError → Type 0
-Inserts before after k t (Ok x) = (k < length before) × (after ≡ slice_set before k t)
-Inserts before after k t (Err e) = (length before ≤ k) × (e ≡ KeyBeyond) × (after ≡ before)

@@ -1,66 +1,47 @@
 // The call that sets a segment's sampling decisions.
-ghost use Rattle.std.specs.Prelude.{◌≡◌, ℕ, ◌<◌, length, slice_index_or, slice_set};
+ghost use Rattle.std.specs.Prelude.{◌≡◌, ℕ};
 ghost use Rattle.book.specs.Calls.{decisions};
-ghost use Rattle.tables.specs.Lent.{passed, left};
+ghost use Rattle.tables.specs.Lent.{passed};
 ghost use Rattle.recorder.specs.Answers.{answer};
 ghost use Rattle.recorder.specs.Decisions.{decided, decided_in};
-ghost use Rattle.recorder.specs.Performs.{Performs};
+ghost use Rattle.recorder.specs.Performs.{Changes};
 
 use index::Index;
 use refusals::ChangeBufferError;
-use tables::order::tables_in_order;
-use tables::segment::Segment;
+use tables::order::check_order;
+use tables::segment::{Decisions, Segment};
 use tables::settings::Settings;
 use tables::tables::Tables;
 use texts::Text;
 
 // All three decisions at once, none included; refused (4) where the segment does not stand.
 pub fn set_decisions<T: Text, S: Index, G: Index>(
-    tables: Tables<'_, T>,
+    tables: &mut Tables<'_, T>,
     segments: &mut [Segment<T>],
     settings: &mut Settings<T>,
     by_id: &mut S,
     by_segment: &mut G,
     id: u64,
-    rule: Option<f64>,
-    limit: Option<f64>,
-    agent: Option<f64>,
-) -> Result<(), ChangeBufferError>
-    ensures call { Performs T.bytes (decisions id rule limit agent) (passed tables.entry segments.old settings.old (S.content by_id.old) (G.content by_segment.old)) (left tables.exit segments.new settings.new (S.content by_id.new) (G.content by_segment.new)) (answer result) }
-    ensures after { (left tables.exit segments.new settings.new (S.content by_id.new) (G.content by_segment.new)) ≡ decided_in id rule limit agent result (passed tables.entry segments.old settings.old (S.content by_id.old) (G.content by_segment.old)) }
+    sampling: Decisions,
+) -> refusals::Result<()>
+    ensures { Changes T.bytes
+        (decisions id sampling.rule sampling.limit sampling.agent) (decided_in id sampling result)
+        (passed tables.old segments.old settings.old (S.content by_id.old) (G.content by_segment.old))
+        (passed tables.new segments.new settings.new (S.content by_id.new) (G.content by_segment.new))
+        (answer result) }
 {
-    if !tables_in_order(&tables, segments, settings, by_id, by_segment) {
-        return Err(ChangeBufferError::OutOfOrder);
-    }
+    check_order(tables, segments, settings, by_id, by_segment)?;
     let Some(place) = by_segment.find(id) else {
         return Err(ChangeBufferError::NoSegment(id));
     };
-    decide_at(segments, place, rule, limit, agent);
+    decide(&mut segments[place], sampling);
     Ok(())
 }
 
-fn decide_at<T: Text>(
-    segments: &mut [Segment<T>],
-    place: usize,
-    rule: Option<f64>,
-    limit: Option<f64>,
-    agent: Option<f64>,
-)
-    requires { place < length segments.old }
-    ensures { (d : Segment T) → segments.new ≡ slice_set segments.old place (decided rule limit agent (slice_index_or segments.old place d)) }
+fn decide<T: Text>(segment: &mut Segment<T>, sampling: Decisions)
+    ensures { segment.new ≡ decided sampling segment.old }
 {
-    decide(&mut segments[place], rule, limit, agent);
-}
-
-fn decide<T: Text>(
-    segment: &mut Segment<T>,
-    rule: Option<f64>,
-    limit: Option<f64>,
-    agent: Option<f64>,
-)
-    ensures { segment.new ≡ decided rule limit agent segment.old }
-{
-    segment.rule = rule;
-    segment.limit = limit;
-    segment.agent = agent;
+    segment.rule = sampling.rule;
+    segment.limit = sampling.limit;
+    segment.agent = sampling.agent;
 }

@@ -1,7 +1,7 @@
 // Set-up: an empty recorder in the lent tables.
 ghost use Rattle.std.specs.Prelude.{◌≡◌, ℕ};
-ghost use Rattle.tables.specs.Lent.{passed, left};
-ghost use Rattle.recorder.specs.Setup.{SetsUp, fresh};
+ghost use Rattle.tables.specs.Lent.{passed};
+ghost use Rattle.recorder.specs.Setup.{SetsUp};
 
 use index::Index;
 use refusals::ChangeBufferError;
@@ -15,7 +15,7 @@ use texts::Text;
 // Leaves every record free, and indexes, strings and defaults empty; refused (1) where the tables' lengths or the
 // indexes' capacities are not as they must be.
 pub fn set_up<T: Text, S: Index, G: Index>(
-    tables: Tables<'_, T>,
+    tables: &mut Tables<'_, T>,
     segments: &mut [Segment<T>],
     settings: &mut Settings<T>,
     by_id: &mut S,
@@ -23,10 +23,13 @@ pub fn set_up<T: Text, S: Index, G: Index>(
     service: T,
     language: T,
     pid: u32,
-) -> Result<(), ChangeBufferError>
-    ensures { SetsUp T.bytes service language pid (passed tables.entry segments.old settings.old (S.content by_id.old) (G.content by_segment.old)) (left tables.exit segments.new settings.new (S.content by_id.new) (G.content by_segment.new)) result }
+) -> refusals::Result<()>
+    ensures { SetsUp T.bytes service language pid
+        (passed tables.old segments.old settings.old (S.content by_id.old) (G.content by_segment.old))
+        (passed tables.new segments.new settings.new (S.content by_id.new) (G.content by_segment.new))
+        result }
 {
-    if !tables_sized(&tables, segments, settings, by_id, by_segment) {
+    if !tables_sized(tables, segments, settings, by_id, by_segment) {
         return Err(ChangeBufferError::OutOfOrder);
     }
     reset_all(tables.spans);
@@ -34,13 +37,6 @@ pub fn set_up<T: Text, S: Index, G: Index>(
     reset_all(tables.strings);
     by_id.clear();
     by_segment.clear();
-    settle(settings, service, language, pid);
-    Ok(())
-}
-
-fn settle<T: Text>(settings: &mut Settings<T>, service: T, language: T, pid: u32)
-    ensures { settings.new ≡ fresh service language pid }
-{
     *settings = Settings {
         service,
         language,
@@ -48,4 +44,5 @@ fn settle<T: Text>(settings: &mut Settings<T>, service: T, language: T, pid: u32
         defaults: 0,
         next_free: 0,
     };
+    Ok(())
 }

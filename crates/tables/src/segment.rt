@@ -1,6 +1,14 @@
 // Segment records.
 use vec_map::head::Head;
 
+// The three sampling decisions, each a float or none.
+#[derive(Clone, Copy)]
+pub struct Decisions {
+    pub rule: Option<f64>,
+    pub limit: Option<f64>,
+    pub agent: Option<f64>,
+}
+
 // A segment: one visit of a trace to the service. It stands while its count is above 0.
 #[derive(Drop)]
 pub struct Segment<T> {
@@ -10,7 +18,7 @@ pub struct Segment<T> {
     pub meta: Head,
     pub metrics: Head,
     pub origin: Option<T>,
-    // The three sampling decisions.
+    // The sampling decisions, flat in the record: a fixed form.
     pub rule: Option<f64>,
     pub limit: Option<f64>,
     pub agent: Option<f64>,

@@ -1,17 +1,20 @@
-use Rattle.std.proofs.Common.{refl}
+use Rattle.std.proofs.Common.{None, sym, refl}
+use Rattle.std.proofs.lemmas.List.{set_past}
 use Rattle.book.specs.Calls.{string_evict}
-use Rattle.recorder.proofs.Performing.{turned-away, no_order}
+use Rattle.recorder.specs.Strings.{written}
+use Rattle.recorder.proofs.Performing.{turned-back}
 use Rattle.recorder.proofs.Stringing.{evicted}
 use Rattle.recorder.proofs.strings.string_table_evict_one.Goals as goal
 
-pub returns-then-not-tables_in_order : goal.returns-then-not-tables_in_order
-returns-then-not-tables_in_order g c =
-    record {
-      call = turned-away g.T.Text.bytes (string_evict c.args.key) _ (no_order c.tables_in_order.result c.if-not-tables_in_order.true c.tables_in_order.ensures);
-      after = refl;
-    }
+pub returns-in_err-check_order : goal.returns-in_err-check_order
+returns-in_err-check_order g c =
+    turned-back g.T.Text.bytes (string_evict c.args.key) (written c.args.key None) _ (λ e. refl)
+    c.from_residual.result _ c.from_residual.ensures.1 c.in_err-check_order.ensures
 
-pub returns : goal.returns
-returns g c =
-    let all = evicted g.T.Text.bytes _ c.args.key c.evict_one.new.strings (c.tables_in_order.ensures.0 c.if-not-tables_in_order.false) c.evict_one.ensures in
-    record { call = all.0; after = all.1 }
+pub returns-then-place-tables : goal.returns-then-place-tables
+returns-then-place-tables g c = evicted g.T.Text.bytes _ c.args.key _ c.in_ok-check_order.ensures refl
+
+pub returns-else-place-tables : goal.returns-else-place-tables
+returns-else-place-tables g c =
+    evicted g.T.Text.bytes _ c.args.key c.args.tables.now.strings.now c.in_ok-check_order.ensures
+    (sym (set_past c.args.tables.now.strings.now c.args.key None c.if-place-tables.false))
