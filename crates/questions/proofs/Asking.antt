@@ -1,7 +1,10 @@
 -- The questions against the plain book.
-use Rattle.std.proofs.Common.{◌≡◌, ℕ, ◌+◌, ◌-◌, ◌<◌, Bool, true, false, cond, List, length, IfOk, Some, None, Ok, Err, Option, Result, sym, refl, ap, ◌∙◌, subst, arith}
+use Rattle.std.proofs.Common.{◌≡◌, ℕ, ◌+◌, ◌-◌, ◌<◌, Bool, true, false, cond, List, length, IsErrAnd, Some, None, Ok, Err, Option, Result, sym, refl, ap, ◌∙◌, subst, inl, inr, arith}
 use Rattle.std.specs.Option.{option_map, ok_or}
 use Rattle.std.specs.List.{slice_get}
+use Rattle.std.proofs.lemmas.Bool.{false≢true}
+use Rattle.std.proofs.lemmas.Result.{err_from_is_err_and}
+use Rattle.std.proofs.lemmas.Option.{slice_get_within}
 use Rattle.index.specs.declared.entry.Entry.{Entry}
 use Rattle.index.specs.Held.{at, Once}
 use Rattle.index.specs.Holding.{Holds}
@@ -17,8 +20,7 @@ use Rattle.tables.specs.declared.span.Span.{Span}
 use Rattle.tables.specs.Store.{Store, Rowed, only, chained, tally, key_at, live, handed, free, live_key, standing_key, span_at, segment_at}
 use Rattle.tables.specs.InOrder.{InOrder}
 use Rattle.tables.specs.Shows.{LikeSpan, LikeSegment, Shows}
-use Rattle.tables.proofs.Places.{nth_within}
-use Rattle.questions.specs.Questions.{RecordOf, LiveRecord, handed_number, live_number, Three, tallies, Told, Asks, SpanIn, OneSpan, OneSegment, ThreeNumbers}
+use Rattle.questions.specs.Questions.{RecordOf, LiveRecord, handed_at, handed_number, live_number, Three, tallies, Told, Asks, Answers, SpanIn, OneSpan, OneSegment, ThreeNumbers}
 use Rattle.questions.proofs.Tallies.{tallies-sum, live-tally}
 
 -- ---- records in use
@@ -30,7 +32,7 @@ module _ {A : Type 0} (key : A → Option ℕ) where
 
   key-within : (xs : List A) (n k : ℕ) (o : Option A) → slice_get xs n ≡ o → chained key o ≡ Some k → n < length xs
   key-within xs n k None e h = absurd (none-some None k refl h)
-  key-within xs n k (Some x) e h = nth_within xs n x e
+  key-within xs n k (Some x) e h = slice_get_within xs n x e
 
   -- what the index holds for an id is the record in use under it
   pub record_of : (xs : List A) (es : List Entry) → Holds es (key_at key xs) → (id : ℕ) (o : Option ℕ) → o ≡ at es id → RecordOf key xs id o
@@ -54,14 +56,12 @@ by_number Like view (Some n) (Some y) there h = let c = there n refl in (c.0, c.
 
 -- ---- a record's mark
 module _ {T : Type 0} where
-  marked : (n : ℕ) (xs : List (Span T)) (o : Option (Span T)) → slice_get xs n ≡ o → IfOk {T = Unit {0}} {E = ChangeBufferError} (cond (has (only handed o)) (Ok tt) (Err (NotHandedOut n))) (λ _. n < length xs)
-  marked n xs None e = tt
-  marked n xs (Some x) e =
-      elim (handed x) as (λ t. IfOk {T = Unit {0}} {E = ChangeBufferError} (cond (has (cond t (Some x) None)) (Ok tt) (Err (NotHandedOut n))) (λ _. n < length xs))
-      [ true ↦ nth_within xs n x e | false ↦ tt ]
-
-  pub handed-within : (n : ℕ) (xs : List (Span T)) (r : Result (Unit {0}) ChangeBufferError) → r ≡ handed_number n xs → IfOk r (λ _. n < length xs)
-  handed-within n xs r e = subst (λ z. IfOk z (λ _. n < length xs)) (sym e) (marked n xs (slice_get xs n) refl)
+  pub handed-within : (n : ℕ) (xs : List (Span T)) → handed_at xs n ≡ true → n < length xs
+  handed-within n xs is = by (slice_get xs n) refl is
+    where
+      by : (o : Option (Span T)) → slice_get xs n ≡ o → has (only handed o) ≡ true → n < length xs
+      by None e is = absurd (false≢true is)
+      by (Some x) e is = slice_get_within xs n x e
 
   -- ---- the three numbers
   pub three-sum : (xs : List (Span T)) (r : Three) → r ≡ tallies xs → r.0 + r.1 + r.2 ≡ length xs
@@ -106,18 +106,23 @@ module _ {T : Type 0} (bytes : T → Text) (m : Store T) where
 
 -- ---- the questions
 module _ {T : Type 0} (bytes : T → Text) (m : Store T) where
-  -- where the tables are not in order
-  pub turned_off : {A : Type 0} (call : Call) (Means : Store T → A → Answer → Type 0) → (InOrder m → ⊥) → Asks bytes call Means m (Err OutOfOrder)
-  turned_off call Means n = record { untouched = λ _. refl; shows = λ b s. absurd (n s.order) }
+  -- where the tables are not in order, at the exit of a `?`
+  pub turned_off : {A : Type 0} (call : Call) (this : Result A ChangeBufferError) (Means : Store T → A → Answer → Type 0) (r : Result A ChangeBufferError) (e : ChangeBufferError)
+      → IsErrAnd r (λ x. x ≡ e) → (InOrder m → ⊥) × (e ≡ OutOfOrder) → Answers bytes call this Means m r
+  turned_off call this Means r e is out =
+      let p = err_from_is_err_and r is in
+      rw (p.1, p.2, out.1) (record { value = inr (out.0, refl); call = record { untouched = λ _. refl; shows = λ b s. absurd (out.0 s.order) } })
 
   -- where they are
   module _ (o : InOrder m) where
     answered : {A : Type 0} (call : Call) (Means : Store T → A → Answer → Type 0) (r x : Result A ChangeBufferError) → r ≡ x
-        → ((b : Book) → Shows bytes m b → Shows bytes m (step call b).0 × Told (Means m) x (step call b).1) → Asks bytes call Means m r
-    answered call Means r x e told =
-        subst (λ z. Asks bytes call Means m z) (sym e) (record { untouched = λ n. absurd (n o); shows = told })
+        → ((b : Book) → Shows bytes m b → Shows bytes m (step call b).0 × Told (Means m) x (step call b).1) → Answers bytes call x Means m r
+    answered call Means r x e told = record {
+      value = inl (o, e);
+      call = subst (λ z. Asks bytes call Means m z) (sym e) (record { untouched = λ n. absurd (n o); shows = told });
+    }
 
-    pub asked-span : (id : ℕ) (r : Result ℕ ChangeBufferError) → r ≡ live_number id m.ids → Asks bytes (get_span id) (OneSpan bytes) m r
+    pub asked-span : (id : ℕ) (r : Result ℕ ChangeBufferError) → r ≡ live_number id m.ids → Answers bytes (get_span id) (live_number id m.ids) (OneSpan bytes) m r
     asked-span id r e =
         answered (get_span id) (OneSpan bytes) r (live_number id m.ids) e
         (λ b s. (
@@ -127,7 +132,7 @@ module _ {T : Type 0} (bytes : T → Text) (m : Store T) where
               (λ n h. key-made live_key _ (slice_get m.spans n) id (o.spans.indexed.0 id n h)) (s.live.each id)),
         ))
 
-    pub asked-segment : (id : ℕ) (r : Option ℕ) → r ≡ at m.seats id → Asks bytes (get_segment id) (OneSegment bytes) m (Ok r)
+    pub asked-segment : (id : ℕ) (r : Option ℕ) → r ≡ at m.seats id → Answers bytes (get_segment id) (Ok (at m.seats id)) (OneSegment bytes) m (Ok r)
     asked-segment id r e =
         answered (get_segment id) (OneSegment bytes) (Ok r) (Ok (at m.seats id)) (ap Ok e)
         (λ b s. (
@@ -140,12 +145,12 @@ module _ {T : Type 0} (bytes : T → Text) (m : Store T) where
           ),
         ))
 
-    pub asked-handed : (n : ℕ) (r : Result (Unit {0}) ChangeBufferError) → r ≡ handed_number n m.spans → Asks bytes (get_handed n) (λ m _. OneSpan bytes m n) m r
+    pub asked-handed : (n : ℕ) (r : Result (Unit {0}) ChangeBufferError) → r ≡ handed_number n m.spans → Answers bytes (get_handed n) (handed_number n m.spans) (λ m _. OneSpan bytes m n) m r
     asked-handed n r e =
         answered (get_handed n) (λ m _. OneSpan bytes m n) r (handed_number n m.spans) e
         (λ b s. (s, told-handed bytes m n _ (λ x. refl) (slice_get m.spans n) (find n b.handed) refl (s.handed.each n)))
 
-    pub asked-numbers : Once m.ids → (r : Three) → r ≡ tallies m.spans → Asks bytes get_numbers ThreeNumbers m (Ok r)
+    pub asked-numbers : Once m.ids → (r : Three) → r ≡ tallies m.spans → Answers bytes get_numbers (Ok (tallies m.spans)) ThreeNumbers m (Ok r)
     asked-numbers once r e =
         answered get_numbers ThreeNumbers (Ok r) (Ok (tallies m.spans)) (ap Ok e)
         (λ b s. (s, ap (λ z. shown (three_numbers z)) (told-numbers bytes m b once s)))

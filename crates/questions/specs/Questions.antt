@@ -76,6 +76,11 @@ pub record Asks {T A : Type 0} (bytes : T → Text) (call : Call) (Means : Store
   pub untouched : (InOrder m → ⊥) → Told (Means m) r (refused (because out_of_order))
   pub shows : (b : Book) → Shows bytes m b → Shows bytes m (step call b).0 × Told (Means m) r (step call b).1
 
+-- both: this answer by the memory, and the book's
+pub record Answers {T A : Type 0} (bytes : T → Text) (asks : Call) (this : Result A ChangeBufferError) (Means : Store T → A → Answer → Type 0) (m : Store T) (r : Result A ChangeBufferError) : Type 0 where
+  pub value : Answered this m r
+  pub call : Asks bytes asks Means m r
+
 module _ {T : Type 0} (bytes : T → Text) where
   -- record n with its pairs shows a span of the book, or a segment
   abbrev pub SpanIn : Store T → ℕ → book.Span → Type 0

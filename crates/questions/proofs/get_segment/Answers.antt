@@ -1,22 +1,17 @@
-use Rattle.std.proofs.Common.{Ok, refl, ap, inl, inr}
+use Rattle.std.proofs.Common.{Ok}
+use Rattle.index.specs.Held.{at}
 use Rattle.book.specs.Calls.{get_segment}
 use Rattle.tables.specs.Store.{standing_key}
 use Rattle.questions.specs.Questions.{OneSegment}
-use Rattle.recorder.proofs.Performing.{no_order}
 use Rattle.questions.proofs.Asking.{record_of, turned_off, asked-segment}
 use Rattle.questions.proofs.get_segment.Goals as goal
 
-pub returns-then-not-tables_in_order : goal.returns-then-not-tables_in_order
-returns-then-not-tables_in_order g c =
-    let out = no_order c.tables_in_order.result c.if-not-tables_in_order.true c.tables_in_order.ensures in
-    record { value = inr (out, refl); cases = tt; call = turned_off g.T.Text.bytes _ (get_segment c.args.id) (OneSegment g.T.Text.bytes) out }
+pub returns-in_err-check_order-clause-answer : goal.returns-in_err-check_order-clause-answer
+returns-in_err-check_order-clause-answer g c =
+    turned_off g.T.Text.bytes _ (get_segment c.args.id) (Ok (at (g.G.Index.content c.args.by_segment.now).held c.args.id)) (OneSegment g.T.Text.bytes) c.from_residual.result _ c.from_residual.ensures.1 c.in_err-check_order.ensures
 
-pub returns : goal.returns
-returns g c =
-    let order = c.tables_in_order.ensures.0 c.if-not-tables_in_order.false in
-    let is = c.standing_number.ensures in
-    record {
-      value = inl (order, ap Ok is);
-      cases = record_of standing_key _ _ order.segments.indexed c.args.id c.standing_number.result is;
-      call = asked-segment g.T.Text.bytes _ order c.args.id c.standing_number.result is;
-    }
+pub returns-clause-answer : goal.returns-clause-answer
+returns-clause-answer g c = asked-segment g.T.Text.bytes _ c.in_ok-check_order.ensures c.args.id c.find.result c.find.ensures
+
+pub returns-clause-cases : goal.returns-clause-cases
+returns-clause-cases g c = record_of standing_key _ _ (c.in_ok-check_order.ensures).segments.indexed c.args.id c.find.result c.find.ensures
