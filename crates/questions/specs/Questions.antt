@@ -1,5 +1,5 @@
 -- What the questions answer: by the memory alone, and as the plain book's answer.
-use Rattle.std.specs.Prelude.{◌≡◌, ℕ, ◌+◌, ◌<◌, Bool, cond, ◌⊎◌, List, length, Some, None, Ok, Err, Option, Result, ◌≢◌}
+use Rattle.std.specs.Prelude.{◌≡◌, ℕ, ◌+◌, ◌<◌, Bool, if◌then◌else◌, ◌⊎◌, List, length, Some, None, Ok, Err, Option, Result, ◌≢◌}
 use Rattle.std.specs.Option.{ok_or}
 use Rattle.std.specs.List.{slice_get}
 use Rattle.index.specs.declared.entry.Entry.{Entry}
@@ -45,7 +45,7 @@ Three = ℕ × ℕ × ℕ
 
 -- one or none
 abbrev pub one : Bool → ℕ
-one b = cond b 1 0
+one b = if b then 1 else 0
 
 -- these numbers with one more record of a mark
 abbrev pub and_one : Three → Mark → Three
@@ -58,7 +58,7 @@ module _ {T : Type 0} where
 
   -- accepted where that record is marked handed out, and refused with 5 where it is not
   abbrev pub handed_number : ℕ → List (Span T) → Result (Unit {0}) ChangeBufferError
-  handed_number n xs = cond (handed_at xs n) (Ok tt) (Err (NotHandedOut n))
+  handed_number n xs = if handed_at xs n then Ok tt else Err (NotHandedOut n)
 
   -- how many records are marked live, handed out and free
   abbrev pub tallies : List (Span T) → Three

@@ -1,4 +1,4 @@
-// The calls on the string table.
+// The calls on the string table. They write by index: of a slice's `get_mut` a proof learns the length alone.
 ghost use Rattle.std.specs.Prelude.{◌≡◌, ℕ, Some, None};
 ghost use Rattle.book.specs.Calls.{string_insert, string_evict};
 ghost use Rattle.tables.specs.Lent.{passed};
@@ -31,7 +31,6 @@ pub fn string_table_insert_one<T: Text, S: Index, G: Index>(
         (answer result) }
 {
     check_order(tables, segments, settings, by_id, by_segment)?;
-    // By its index: of a slice's `get_mut` a proof learns the length alone.
     let place = key as usize;
     if place >= tables.strings.len() {
         return Err(ChangeBufferError::KeyBeyond);

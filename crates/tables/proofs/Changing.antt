@@ -1,6 +1,7 @@
 -- One record changes and keeps its key: the index still holds just the keys, and the book's map changes there alone.
 use Rattle.std.proofs.Common.{◌≡◌, ℕ, List, set, Some, Option, sym, ap, ◌∙◌, subst, inl, inr}
 use Rattle.std.proofs.lemmas.Bool.{cases_eq}
+use Rattle.std.proofs.lemmas.Option.{slice_get_within}
 use Rattle.std.specs.List.{slice_get}
 use Rattle.index.specs.declared.entry.Entry.{Entry}
 use Rattle.index.specs.Held.{at}
@@ -11,7 +12,7 @@ use Rattle.book.proofs.Maps.{find-put, find-put-other, distinct_put, length-put}
 use Rattle.tables.specs.Store.{chained, key_at}
 use Rattle.tables.specs.InOrder.{KeptIn}
 use Rattle.tables.specs.Shows.{Shown}
-use Rattle.tables.proofs.Places.{nth_within, nth_set-same, nth_set-other}
+use Rattle.tables.proofs.Places.{nth_set-same, nth_set-other}
 
 module _ {A : Type 0} (key : A → Option ℕ) (Limits : A → Type 0) (xs : List A) (r : ℕ) (old new : A) (there : slice_get xs r ≡ Some old) (same : key new ≡ key old) where
   key_set : (q : ℕ) → key_at key (set xs r new) q ≡ key_at key xs q
@@ -19,7 +20,7 @@ module _ {A : Type 0} (key : A → Option ℕ) (Limits : A → Type 0) (xs : Lis
       elim (cases_eq q r) [
         | inl e ↦
             ap (λ n. key_at key (set xs r new) n) e
-            ∙ (ap (chained key) (nth_set-same xs r new (nth_within xs r old there))
+            ∙ (ap (chained key) (nth_set-same xs r new (slice_get_within xs r old there))
             ∙ (same ∙ (sym (ap (chained key) there) ∙ ap (λ n. key_at key xs n) (sym e))))
         | inr n ↦ ap (chained key) (nth_set-other xs r q new n)
       ]
@@ -28,7 +29,7 @@ module _ {A : Type 0} (key : A → Option ℕ) (Limits : A → Type 0) (xs : Lis
   limits-set here all q x e =
       elim (cases_eq q r) [
         | inl i ↦
-            subst Limits (same_some (slice_get (set xs r new) r) new x (nth_set-same xs r new (nth_within xs r old there)) (ap (slice_get (set xs r new)) (sym i) ∙ e)) here
+            subst Limits (same_some (slice_get (set xs r new) r) new x (nth_set-same xs r new (slice_get_within xs r old there)) (ap (slice_get (set xs r new)) (sym i) ∙ e)) here
         | inr n ↦ all q x (sym (nth_set-other xs r q new n) ∙ e)
       ]
 

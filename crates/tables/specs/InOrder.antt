@@ -62,6 +62,6 @@ module _ {T : Type 0} where
     pub others : OthersInOrder (length m.strings) (length m.defaults) 0
 
   -- accepted where the tables are in order, and refused with 1 where they are not
-  abbrev pub IsInOrder : Store T → Result (Unit {0}) ChangeBufferError → Type 0
-  IsInOrder m (Ok x) = InOrder m
-  IsInOrder m (Err e) = (InOrder m → ⊥) × (e ≡ OutOfOrder)
+  abbrev pub ChecksOrder : Store T → Result (Unit {0}) ChangeBufferError → Type 0
+  ChecksOrder m (Ok x) = InOrder m
+  ChecksOrder m (Err e) = (InOrder m → ⊥) × (e ≡ OutOfOrder)

@@ -1,6 +1,6 @@
 // The question that every call asks first: are the tables in order?
 ghost use Rattle.std.specs.Prelude.{◌≡◌, ℕ, ◌≤◌, length, ◌↔◌, IsTrue};
-ghost use Rattle.tables.specs.InOrder.{InOrder, Lengths, IsInOrder, OthersInOrder, Sized};
+ghost use Rattle.tables.specs.InOrder.{InOrder, Lengths, ChecksOrder, OthersInOrder, Sized};
 ghost use Rattle.tables.specs.Lent.{passed};
 ghost use Rattle.tables.specs.Shows.{ShowsABook};
 
@@ -13,7 +13,7 @@ use refusals::ChangeBufferError;
 use texts::Text;
 
 // Whether a table has at least one record and no more than it may, two rows for each, and an index with room for all.
-fn lengths_allowed<R: Record, T: Text, I: Index>(
+fn lengths_allowed<R: Record, T, I: Index>(
     records: &[R],
     texts: &[(T, T)],
     numbers: &[(T, u64)],
@@ -29,7 +29,7 @@ fn lengths_allowed<R: Record, T: Text, I: Index>(
         && count <= index.capacity()
 }
 
-// Whether there are from 1 string on, and no more than there may be, and the table of default pairs, of which `count` count.
+// Whether there is at least one string and no more than there may be, and the table of default pairs, of which `count` count.
 fn others_allowed<T>(strings: &[Option<T>], defaults: &[(T, T)], count: usize) -> bool
     ensures { IsTrue result ↔ (OthersInOrder (length strings.now) (length defaults.now) count) }
 {
@@ -84,7 +84,7 @@ pub fn check_order<T: Text, S: Index, G: Index>(
     by_id: &S,
     by_segment: &G,
 ) -> refusals::Result<()>
-    ensures { IsInOrder
+    ensures { ChecksOrder
         (passed tables.now segments.now settings.now (S.content by_id.now) (G.content by_segment.now))
         result }
 {

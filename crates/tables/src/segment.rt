@@ -18,7 +18,7 @@ pub struct Segment<T> {
     pub meta: Head,
     pub metrics: Head,
     pub origin: Option<T>,
-    // The sampling decisions, flat in the record: a fixed form.
+    // The sampling decisions, which by a rule of the project lie in the record itself.
     pub rule: Option<f64>,
     pub limit: Option<f64>,
     pub agent: Option<f64>,

@@ -6,8 +6,8 @@ pub const MOST_STRINGS: usize = 65536;
 // How many pairs the table of default pairs has.
 pub const MOST_DEFAULTS: usize = 32;
 
-// All tables but the segments. Segment records hold floats and indexes come in kinds, so a call is lent segments,
-// settings and both indexes each as its own parameter beside these: a fixed form.
+// All tables but the segments. By a rule of the project no struct holds a lent table together with floats, or with a
+// text or an index by value, so segments, settings and both indexes are lent beside it, each as its own parameter.
 #[derive(Drop)]
 pub struct Tables<'a, T> {
     pub spans: &'a mut [Span<T>],
