@@ -1,5 +1,5 @@
 // The call that sets a segment's sampling decisions.
-ghost use Rattle.std.specs.Prelude.{◌≡◌, ℕ};
+ghost use Rattle.std.specs.Prelude.{◌≡◌};
 ghost use Rattle.book.specs.Calls.{decisions};
 ghost use Rattle.tables.specs.Lent.{passed};
 ghost use Rattle.recorder.specs.Answers.{answer};

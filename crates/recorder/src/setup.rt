@@ -1,5 +1,4 @@
 // Set-up: an empty recorder in the lent tables.
-ghost use Rattle.std.specs.Prelude.{◌≡◌, ℕ};
 ghost use Rattle.tables.specs.Lent.{passed};
 ghost use Rattle.recorder.specs.Setup.{SetsUp};
 

@@ -1,5 +1,5 @@
 // The calls on the string table. They write by index: of a slice's `get_mut` a proof learns the length alone.
-ghost use Rattle.std.specs.Prelude.{◌≡◌, ℕ, Some, None};
+ghost use Rattle.std.specs.Prelude.{Some, None};
 ghost use Rattle.book.specs.Calls.{string_insert, string_evict};
 ghost use Rattle.tables.specs.Lent.{passed};
 ghost use Rattle.recorder.specs.Answers.{answer};

@@ -1,5 +1,5 @@
 // The question that every call asks first: are the tables in order?
-ghost use Rattle.std.specs.Prelude.{◌≡◌, ℕ, ◌≤◌, length, ◌↔◌, IsTrue};
+ghost use Rattle.std.specs.Prelude.{length, ◌↔◌, IsTrue};
 ghost use Rattle.tables.specs.InOrder.{InOrder, Lengths, ChecksOrder, OthersInOrder, Sized};
 ghost use Rattle.tables.specs.Lent.{passed};
 ghost use Rattle.tables.specs.Shows.{ShowsABook};
