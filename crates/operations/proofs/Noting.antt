@@ -1,5 +1,6 @@
 -- One writing to a segment.
 use Rattle.std.proofs.Common.{◌≡◌, ℕ, ◌+◌, ◌<◌, ◌≤◌, true, false, not, List, [], ◌∷◌, ◌++◌, map, length, take, set, Some, None, Ok, Err, Option, sym, refl, ap, ◌∙◌, subst, inl, arith}
+use Rattle.std.specs.Option.{ok_or}
 use Rattle.std.specs.List.{slice_get}
 use Rattle.std.proofs.lemmas.Bool.{lt-ltb, le-ltb}
 use Rattle.vec_map.specs.declared.head.Head.{Head}
@@ -20,12 +21,12 @@ use Rattle.tables.specs.Store.{Store, store, Rowed, chained, standing_key, segme
 use Rattle.tables.specs.InOrder.{InOrder}
 use Rattle.tables.specs.Shows.{text_pair, number_pair, LikeSegment, Shows}
 use Rattle.tables.proofs.Places.{nth_within}
-use Rattle.operations.specs.Inserts.{one_longer, Inserted}
+use Rattle.operations.specs.Inserts.{one_longer, Inserts}
 use Rattle.operations.specs.Done.{RowMoved, Done, NoneMade, gone}
 use Rattle.operations.proofs.Taking.{put_same}
 use Rattle.operations.proofs.Keeping.{records-same, records-set}
 use Rattle.operations.proofs.Segments.{seat_stands, seat_order, seat_shown, seat_own}
-use Rattle.operations.proofs.Writing.{plays-on, done_refused, row_count, row_more, row_grew, rows_within, by_field}
+use Rattle.operations.proofs.Writing.{plays-on, done_refused, set-same, row_count, row_more, row_grew, rows_within, by_field}
 
 module _ (id : ℕ) (w : Writing) (b : Book) (rest : List ℕ) where
   note-gone : find id b.segments ≡ None → write_segment id w b rest ≡ went tt b rest
@@ -171,26 +172,32 @@ module _ {T : Type 0} (m : Store T) (o : InOrder m) (id g : ℕ) (own : at m.sea
         done_noted bytes (origin ≔ text (bytes t)) (with_origin (Some t) y) m.segment_meta m.segment_metrics refl refl refl refl (λ j n. refl) (λ j n. refl) (few_are.0, few_are.1) (inl refl, inl refl)
         (λ s a b. refl) (λ s l. origin-like bytes y t _ _ s l)
 
-    pub done_meta : (bytes : T → Text) (k v : T) (ms' : List (T × T)) (h : Head) → length ms' ≡ length m.segment_meta → Inserted 32 g 32 m.segment_meta ms' y.meta h (k, v)
-        → Done bytes (write_segment id (meta (bytes k) (bytes v))) NoneMade m (store m.spans m.span_meta m.span_metrics (set m.segments g (with_meta_head h y)) ms' m.segment_metrics m.strings m.defaults m.settings m.ids m.ids_room m.seats m.seats_room) (Ok tt)
-    done_meta bytes k v ms' h l i =
+    -- a text pair, or no place for it
+    pub done_meta : (bytes : T → Text) (k v : T) (ms' : List (T × T)) (h : Head) (a : Option (Unit {0})) → length ms' ≡ length m.segment_meta → Inserts 32 g 32 m.segment_meta ms' y.meta h (k, v) a
+        → Done bytes (write_segment id (meta (bytes k) (bytes v))) NoneMade m (store m.spans m.span_meta m.span_metrics (set m.segments g (with_meta_head h y)) ms' m.segment_metrics m.strings m.defaults m.settings m.ids m.ids_room m.seats m.seats_room) (ok_or a (RowFull id))
+    done_meta bytes k v ms' h (Some u) l i =
         let c = ap (λ z. z.count) i.head in
         let a = i.place in
         done_noted bytes (meta (bytes k) (bytes v)) (with_meta_head h y) ms' m.segment_metrics refl refl l refl i.others (λ j n. refl) (omega (arith, c, a), few_are.1) (row_grew y.meta h i.head, inl refl)
         (λ s t n. lt-ltb (length (texts s.since)) 32 (omega (arith, t, a)))
         (λ s like. meta-like bytes y h g m.segment_meta ms' (row 16 g m.segment_metrics) k v s i.head i.pairs like)
+    done_meta bytes k v ms' h None l i =
+        let same : set m.segments g (with_meta_head h y) ≡ m.segments = ap (λ z. set m.segments g (with_meta_head z y)) i.2 ∙ set-same m.segments g y is in
+        subst (λ zs. Done bytes (write_segment id (meta (bytes k) (bytes v))) NoneMade m (store m.spans m.span_meta m.span_metrics zs ms' m.segment_metrics m.strings m.defaults m.settings m.ids m.ids_room m.seats m.seats_room) (Err (RowFull id))) (sym same)
+        (subst (λ zs. Done bytes (write_segment id (meta (bytes k) (bytes v))) NoneMade m (store m.spans m.span_meta m.span_metrics m.segments zs m.segment_metrics m.strings m.defaults m.settings m.ids m.ids_room m.seats m.seats_room) (Err (RowFull id))) (sym i.1)
+        (done_full bytes (meta (bytes k) (bytes v)) (λ s t n. let le = i.0 in le-ltb (length (texts s.since)) 32 (omega (arith, t, le)))))
 
-    pub full-meta : (bytes : T → Text) (k v : T) → 32 ≤ y.meta.count → Done bytes (write_segment id (meta (bytes k) (bytes v))) NoneMade m m (Err (RowFull id))
-    full-meta bytes k v le = done_full bytes (meta (bytes k) (bytes v)) (λ s t n. le-ltb (length (texts s.since)) 32 (omega (arith, t, le)))
-
-    pub done_metric : (bytes : T → Text) (k : T) (v : ℕ) (ns' : List (T × ℕ)) (h : Head) → length ns' ≡ length m.segment_metrics → Inserted 16 g 16 m.segment_metrics ns' y.metrics h (k, v)
-        → Done bytes (write_segment id (metric (bytes k) v)) NoneMade m (store m.spans m.span_meta m.span_metrics (set m.segments g (with_metrics_head h y)) m.segment_meta ns' m.strings m.defaults m.settings m.ids m.ids_room m.seats m.seats_room) (Ok tt)
-    done_metric bytes k v ns' h l i =
+    -- a number pair
+    pub done_metric : (bytes : T → Text) (k : T) (v : ℕ) (ns' : List (T × ℕ)) (h : Head) (a : Option (Unit {0})) → length ns' ≡ length m.segment_metrics → Inserts 16 g 16 m.segment_metrics ns' y.metrics h (k, v) a
+        → Done bytes (write_segment id (metric (bytes k) v)) NoneMade m (store m.spans m.span_meta m.span_metrics (set m.segments g (with_metrics_head h y)) m.segment_meta ns' m.strings m.defaults m.settings m.ids m.ids_room m.seats m.seats_room) (ok_or a (RowFull id))
+    done_metric bytes k v ns' h (Some u) l i =
         let c = ap (λ z. z.count) i.head in
         let a = i.place in
         done_noted bytes (metric (bytes k) v) (with_metrics_head h y) m.segment_meta ns' refl refl refl l (λ j n. refl) i.others (few_are.0, omega (arith, c, a)) (inl refl, row_grew y.metrics h i.head)
         (λ s t n. lt-ltb (length (numbers s.since)) 16 (omega (arith, n, a)))
         (λ s like. metric-like bytes y h g (row 32 g m.segment_meta) m.segment_metrics ns' k v s i.head i.pairs like)
-
-    pub full-metric : (bytes : T → Text) (k : T) (v : ℕ) → 16 ≤ y.metrics.count → Done bytes (write_segment id (metric (bytes k) v)) NoneMade m m (Err (RowFull id))
-    full-metric bytes k v le = done_full bytes (metric (bytes k) v) (λ s t n. le-ltb (length (numbers s.since)) 16 (omega (arith, n, le)))
+    done_metric bytes k v ns' h None l i =
+        let same : set m.segments g (with_metrics_head h y) ≡ m.segments = ap (λ z. set m.segments g (with_metrics_head z y)) i.2 ∙ set-same m.segments g y is in
+        subst (λ zs. Done bytes (write_segment id (metric (bytes k) v)) NoneMade m (store m.spans m.span_meta m.span_metrics zs m.segment_meta ns' m.strings m.defaults m.settings m.ids m.ids_room m.seats m.seats_room) (Err (RowFull id))) (sym same)
+        (subst (λ zs. Done bytes (write_segment id (metric (bytes k) v)) NoneMade m (store m.spans m.span_meta m.span_metrics m.segments m.segment_meta zs m.strings m.defaults m.settings m.ids m.ids_room m.seats m.seats_room) (Err (RowFull id))) (sym i.1)
+        (done_full bytes (metric (bytes k) v) (λ s t n. let le = i.0 in le-ltb (length (numbers s.since)) 16 (omega (arith, n, le)))))

@@ -2,7 +2,9 @@
 use Rattle.std.proofs.Common.{◌≡◌, ℕ, ◌+◌, ◌*◌, ◌<◌, ◌≤◌, true, false, cond, List, [], ◌∷◌, ◌++◌, map, length, take, drop, set, Some, None, Ok, Err, Option, sym, refl, ap, ◌∙◌, subst, inl, inr, mul-le-mul_right, add-mul, one-mul, arith, length-drop}
 use lib.ListN.{length-map}
 use Rattle.std.specs.List.{slice_get}
-use Rattle.std.proofs.lemmas.List.{map-append, length-take-le}
+use Rattle.std.specs.Option.{ok_or}
+use Rattle.std.proofs.lemmas.List.{map-append, length-take-le, set-get_or}
+use Rattle.std.proofs.lemmas.Option.{get_or_from_slice_get}
 use Rattle.std.proofs.lemmas.Bool.{lt-ltb, le-ltb}
 use Rattle.vec_map.specs.declared.head.Head.{Head}
 use Rattle.vec_map.specs.Tables.{row, OthersStay}
@@ -29,7 +31,7 @@ use Rattle.recorder.specs.Answers.{refusal}
 use Rattle.operations.specs.declared.values.SpanField.{SpanField}
 use Rattle.operations.specs.declared.values.SpanField.TheVariants.{Service, Resource, Kind, Name, Error, Start, Duration}
 use Rattle.operations.specs.Fields.{with_field, field_written}
-use Rattle.operations.specs.Inserts.{one_longer, Inserted}
+use Rattle.operations.specs.Inserts.{one_longer, Inserts}
 use Rattle.operations.specs.Done.{RowMoved, ending, Done, NoneMade, gone}
 use Rattle.operations.proofs.Taking.{put_same, key-is}
 use Rattle.operations.proofs.Keeping.{records-same, records-set}
@@ -64,6 +66,10 @@ module _ (id : ℕ) (w : Writing) (b : Book) (rest : List ℕ) (s : book.Span) (
   write-full k = rw (e, k) refl
 
 -- ---- rows
+
+-- a record written where it stands already
+pub set-same : {A : Type 0} (xs : List A) (r : ℕ) (x : A) → slice_get xs r ≡ Some x → set xs r x ≡ xs
+set-same xs r x is = ap (set xs r) (sym (get_or_from_slice_get xs r x x is)) ∙ set-get_or xs r x
 
 -- the rows of a record lie in their table
 pub rows_within : (r n w l : ℕ) → r < n → l ≡ n * w → r * w + w ≤ l
@@ -252,7 +258,7 @@ module _ {T : Type 0} (m : Store T) (o : InOrder m) (id r : ℕ) (own : at m.ids
       abbrev pub span_written : Store T
       span_written = store (set m.spans r x') ms' ns' m.segments m.segment_meta m.segment_metrics m.strings m.defaults m.settings m.ids m.ids_room m.seats m.seats_room
 
-      pub done_written : Done bytes (write_span id w) NoneMade m span_written (Ok tt)
+      done_written : Done bytes (write_span id w) NoneMade m span_written (Ok tt)
       done_written =
           let l = live-is in
           let k : x'.mark ≡ Live = marked ∙ l.0 in
@@ -271,7 +277,7 @@ module _ {T : Type 0} (m : Store T) (o : InOrder m) (id r : ℕ) (own : at m.ids
           }
 
     -- a writing that does not
-    pub done_full : (bytes : T → Text) (w : Writing) → ((s : book.Span) → length (span_texts s) ≡ x.meta.count → length (span_numbers s) ≡ x.metrics.count → has_place span_text_limit span_number_limit (written s) w ≡ false)
+    done_full : (bytes : T → Text) (w : Writing) → ((s : book.Span) → length (span_texts s) ≡ x.meta.count → length (span_numbers s) ≡ x.metrics.count → has_place span_text_limit span_number_limit (written s) w ≡ false)
         → Done bytes (write_span id w) NoneMade m m (Err (RowFull id))
     done_full bytes w no_place = done_refused bytes (write_span id w) NoneMade m (row_full id) (RowFull id) refl o (λ b rest h.
         let s = own_span bytes b h in write-full id w b rest s.span s.found (no_place s.span s.texts_long s.numbers_long))
@@ -294,26 +300,32 @@ module _ {T : Type 0} (m : Store T) (o : InOrder m) (id r : ℕ) (own : at m.ids
         by (Start t) l = done_written bytes _ (with_field (Start t) x) m.span_meta m.span_metrics refl refl refl refl (λ j n. refl) (λ j n. refl) few_are (inl refl, inl refl) (λ s a b. refl) (λ s h. l x _ _ s h)
         by (Duration t) l = done_written bytes _ (with_field (Duration t) x) m.span_meta m.span_metrics refl refl refl refl (λ j n. refl) (λ j n. refl) few_are (inl refl, inl refl) (λ s a b. refl) (λ s h. l x _ _ s h)
 
-    pub done_meta : (bytes : T → Text) (k v : T) (ms' : List (T × T)) (h : Head) → length ms' ≡ length m.span_meta → Inserted 99 r 64 m.span_meta ms' x.meta h (k, v)
-        → Done bytes (write_span id (meta (bytes k) (bytes v))) NoneMade m (store (set m.spans r (with_meta_head h x)) ms' m.span_metrics m.segments m.segment_meta m.segment_metrics m.strings m.defaults m.settings m.ids m.ids_room m.seats m.seats_room) (Ok tt)
-    done_meta bytes k v ms' h l i =
+    -- a text pair, or no place for it
+    pub done_meta : (bytes : T → Text) (k v : T) (ms' : List (T × T)) (h : Head) (a : Option (Unit {0})) → length ms' ≡ length m.span_meta → Inserts 99 r 64 m.span_meta ms' x.meta h (k, v) a
+        → Done bytes (write_span id (meta (bytes k) (bytes v))) NoneMade m (store (set m.spans r (with_meta_head h x)) ms' m.span_metrics m.segments m.segment_meta m.segment_metrics m.strings m.defaults m.settings m.ids m.ids_room m.seats m.seats_room) (ok_or a (RowFull id))
+    done_meta bytes k v ms' h (Some u) l i =
         let c = ap (λ z. z.count) i.head in
         let a = i.place in
         done_written bytes (meta (bytes k) (bytes v)) (with_meta_head h x) ms' m.span_metrics refl refl l refl i.others (λ j n. refl) (omega (arith, c, a), few_are.1) (row_grew x.meta h i.head, inl refl)
         (λ s t n. lt-ltb (length (span_texts s)) 64 (omega (arith, t, a)))
         (λ s like. meta-like bytes x h r m.span_meta ms' (row 54 r m.span_metrics) k v s i.head i.pairs like)
+    done_meta bytes k v ms' h None l i =
+        let same : set m.spans r (with_meta_head h x) ≡ m.spans = ap (λ z. set m.spans r (with_meta_head z x)) i.2 ∙ set-same m.spans r x is in
+        subst (λ zs. Done bytes (write_span id (meta (bytes k) (bytes v))) NoneMade m (store zs ms' m.span_metrics m.segments m.segment_meta m.segment_metrics m.strings m.defaults m.settings m.ids m.ids_room m.seats m.seats_room) (Err (RowFull id))) (sym same)
+        (subst (λ zs. Done bytes (write_span id (meta (bytes k) (bytes v))) NoneMade m (store m.spans zs m.span_metrics m.segments m.segment_meta m.segment_metrics m.strings m.defaults m.settings m.ids m.ids_room m.seats m.seats_room) (Err (RowFull id))) (sym i.1)
+        (done_full bytes (meta (bytes k) (bytes v)) (λ s t n. let le = i.0 in le-ltb (length (span_texts s)) 64 (omega (arith, t, le)))))
 
-    pub full-meta : (bytes : T → Text) (k v : T) → 64 ≤ x.meta.count → Done bytes (write_span id (meta (bytes k) (bytes v))) NoneMade m m (Err (RowFull id))
-    full-meta bytes k v le = done_full bytes (meta (bytes k) (bytes v)) (λ s t n. le-ltb (length (span_texts s)) 64 (omega (arith, t, le)))
-
-    pub done_metric : (bytes : T → Text) (k : T) (v : ℕ) (ns' : List (T × ℕ)) (h : Head) → length ns' ≡ length m.span_metrics → Inserted 54 r 32 m.span_metrics ns' x.metrics h (k, v)
-        → Done bytes (write_span id (metric (bytes k) v)) NoneMade m (store (set m.spans r (with_metrics_head h x)) m.span_meta ns' m.segments m.segment_meta m.segment_metrics m.strings m.defaults m.settings m.ids m.ids_room m.seats m.seats_room) (Ok tt)
-    done_metric bytes k v ns' h l i =
+    -- a number pair
+    pub done_metric : (bytes : T → Text) (k : T) (v : ℕ) (ns' : List (T × ℕ)) (h : Head) (a : Option (Unit {0})) → length ns' ≡ length m.span_metrics → Inserts 54 r 32 m.span_metrics ns' x.metrics h (k, v) a
+        → Done bytes (write_span id (metric (bytes k) v)) NoneMade m (store (set m.spans r (with_metrics_head h x)) m.span_meta ns' m.segments m.segment_meta m.segment_metrics m.strings m.defaults m.settings m.ids m.ids_room m.seats m.seats_room) (ok_or a (RowFull id))
+    done_metric bytes k v ns' h (Some u) l i =
         let c = ap (λ z. z.count) i.head in
         let a = i.place in
         done_written bytes (metric (bytes k) v) (with_metrics_head h x) m.span_meta ns' refl refl refl l (λ j n. refl) i.others (few_are.0, omega (arith, c, a)) (inl refl, row_grew x.metrics h i.head)
         (λ s t n. lt-ltb (length (span_numbers s)) 32 (omega (arith, n, a)))
         (λ s like. metric-like bytes x h r (row 99 r m.span_meta) m.span_metrics ns' k v s i.head i.pairs like)
-
-    pub full-metric : (bytes : T → Text) (k : T) (v : ℕ) → 32 ≤ x.metrics.count → Done bytes (write_span id (metric (bytes k) v)) NoneMade m m (Err (RowFull id))
-    full-metric bytes k v le = done_full bytes (metric (bytes k) v) (λ s t n. le-ltb (length (span_numbers s)) 32 (omega (arith, n, le)))
+    done_metric bytes k v ns' h None l i =
+        let same : set m.spans r (with_metrics_head h x) ≡ m.spans = ap (λ z. set m.spans r (with_metrics_head z x)) i.2 ∙ set-same m.spans r x is in
+        subst (λ zs. Done bytes (write_span id (metric (bytes k) v)) NoneMade m (store zs m.span_meta ns' m.segments m.segment_meta m.segment_metrics m.strings m.defaults m.settings m.ids m.ids_room m.seats m.seats_room) (Err (RowFull id))) (sym same)
+        (subst (λ zs. Done bytes (write_span id (metric (bytes k) v)) NoneMade m (store m.spans m.span_meta zs m.segments m.segment_meta m.segment_metrics m.strings m.defaults m.settings m.ids m.ids_room m.seats m.seats_room) (Err (RowFull id))) (sym i.1)
+        (done_full bytes (metric (bytes k) v) (λ s t n. let le = i.0 in le-ltb (length (span_numbers s)) 32 (omega (arith, n, le)))))

@@ -1,6 +1,6 @@
 -- What every operation promises: the order stays, the book's action ends so in a book that is shown then, records are kept,
 -- and a row's mark moves only where a pair is inserted or the record is made.
-use Rattle.std.specs.Prelude.{◌≡◌, ℕ, ◌<◌, Bool, true, false, not, ◌⊎◌, List, length, Some, None, Ok, Err, Result}
+use Rattle.std.specs.Prelude.{◌≡◌, ℕ, ◌*◌, ◌<◌, Bool, true, false, not, ◌⊎◌, List, length, Some, None, Ok, Err, Result}
 use Rattle.std.specs.List.{slice_get}
 use Rattle.vec_map.specs.declared.head.Head.{Head}
 use Rattle.index.specs.declared.entry.Entry.{Entry}
@@ -11,6 +11,7 @@ use Rattle.book.specs.Actions.{Act}
 use Rattle.book.specs.Acts.{Ending, reached, turned_down, Acts}
 use Rattle.book.specs.Flush.{write_span, write_segment}
 use Rattle.tables.specs.declared.segment.Segment.{Segment}
+use Rattle.tables.specs.declared.tables.Tables.{Tables}
 use Rattle.tables.specs.Store.{Store, free, stands}
 use Rattle.tables.specs.InOrder.{InOrder}
 use Rattle.tables.specs.Shows.{Shows}
@@ -90,3 +91,9 @@ module _ {T : Type 0} (bytes : T → Text) where
 -- every id is held for a record below n
 abbrev pub HeldWithin : List Entry → ℕ → Type 0
 HeldWithin es n = (id r : ℕ) → at es id ≡ Some r → r < n
+
+-- every id of a segment is held for one of the records, and the tables have both rows of each
+pub record SegmentRows {T : Type 0} (t : Tables T) (ys : List (Segment T)) (es : List Entry) : Type 0 where
+  pub within : HeldWithin es (length ys)
+  pub text_rows : length t.segment_meta.now ≡ length ys * 32
+  pub number_rows : length t.segment_metrics.now ≡ length ys * 16

@@ -1,6 +1,8 @@
--- A field of a span as the code names it: the record with it set, and the writing that it stands for.
-use Rattle.book.specs.Book.{Text, service, name, resource, type, start, duration, error, text, int, Writing, ◌≔◌}
+-- A field of a span, and a pair, as the code names them: the record with the field set, and the writings that they stand for.
+use Rattle.book.specs.Book.{Text, service, name, resource, type, start, duration, error, text, int, Writing, ◌≔◌, meta, metric}
 use Rattle.tables.specs.declared.span.Span.{Span}
+use Rattle.operations.specs.declared.values.Pair.{Pair}
+use Rattle.operations.specs.declared.values.Pair.TheVariants.{Meta, Metric}
 use Rattle.operations.specs.declared.values.SpanField.{SpanField}
 use Rattle.operations.specs.declared.values.SpanField.TheVariants.{Service, Resource, Kind, Name, Error, Start, Duration}
 
@@ -23,3 +25,7 @@ module _ {T : Type 0} where
   field_written bytes (Error n) = error ≔ int n
   field_written bytes (Start n) = start ≔ int n
   field_written bytes (Duration n) = duration ≔ int n
+
+  abbrev pub pair_written : (T → Text) → Pair T → Writing
+  pair_written bytes (Meta k v) = meta (bytes k) (bytes v)
+  pair_written bytes (Metric k n) = metric (bytes k) n

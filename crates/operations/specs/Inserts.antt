@@ -1,5 +1,5 @@
 -- One pair more at the end of a row of a table, and the head of that row.
-use Rattle.std.specs.Prelude.{◌≡◌, ℕ, ◌+◌, ◌<◌, ◌≤◌, Bool, true, false, List, [], ◌∷◌, ◌++◌, take}
+use Rattle.std.specs.Prelude.{◌≡◌, ℕ, ◌+◌, ◌<◌, ◌≤◌, false, List, [], ◌∷◌, ◌++◌, take, Some, None, Option}
 use Rattle.vec_map.specs.declared.head.Head.{Head}
 use Rattle.vec_map.specs.Tables.{row, OthersStay}
 
@@ -14,7 +14,7 @@ pub record Inserted {K V : Type 0} (w k limit : ℕ) (before after : List (K × 
   pub pairs : take (old.count + 1) (row w k after) ≡ take old.count (row w k before) ++ p ∷ []
   pub others : OthersStay w k before after
 
--- yes where the row was below its limit; on no nothing changed
-abbrev pub Inserts : {K V : Type 0} → ℕ → ℕ → ℕ → List (K × V) → List (K × V) → Head → Head → K × V → Bool → Type 0
-Inserts w k limit before after old new p true = Inserted w k limit before after old new p
-Inserts w k limit before after old new p false = (limit ≤ old.count) × (after ≡ before) × (new ≡ old)
+-- one pair more where the row was below its limit; elsewhere none, and nothing changed
+abbrev pub Inserts : {K V : Type 0} → ℕ → ℕ → ℕ → List (K × V) → List (K × V) → Head → Head → K × V → Option (Unit {0}) → Type 0
+Inserts w k limit before after old new p (Some x) = Inserted w k limit before after old new p
+Inserts w k limit before after old new p None = (limit ≤ old.count) × (after ≡ before) × (new ≡ old)

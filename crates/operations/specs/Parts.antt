@@ -1,9 +1,10 @@
 -- The memory of a recorder with one part replaced.
-use Rattle.std.specs.Prelude.{ℕ, List}
+use Rattle.std.specs.Prelude.{ℕ, ◌+◌, ◌*◌, ◌<◌, ◌≤◌, List, length}
+use Rattle.std.specs.Borrow.{MutBor}
 use Rattle.index.specs.declared.entry.Entry.{Entry}
 use Rattle.tables.specs.declared.span.Span.{Span}
 use Rattle.tables.specs.declared.segment.Segment.{Segment}
-use Rattle.tables.specs.declared.settings.Settings.{Settings}
+use Rattle.tables.specs.declared.tables.Tables.{Tables}
 use Rattle.tables.specs.Store.{Store, store}
 
 module _ {T : Type 0} where
@@ -31,6 +32,16 @@ module _ {T : Type 0} where
   abbrev pub with_seats : List Entry → Store T → Store T
   with_seats es m = store m.spans m.span_meta m.span_metrics m.segments m.segment_meta m.segment_metrics m.strings m.defaults m.settings m.ids m.ids_room es m.seats_room
 
-  -- all that a create reads or changes
-  abbrev pub create_parts : List (Span T) → List (T × T) → List (Segment T) → List (T × T) → Settings T → List Entry → ℕ → List Entry → ℕ → Store T → Store T
-  create_parts xs ms ys ds s ids room seats seats_room m = store xs ms m.span_metrics ys m.segment_meta m.segment_metrics m.strings ds s ids room seats seats_room
+  -- all lent tables
+  abbrev pub with_tables : Tables T → Store T → Store T
+  with_tables t m = store t.spans.now t.span_meta.now t.span_metrics.now m.segments t.segment_meta.now t.segment_metrics.now t.strings.now t.defaults.now m.settings m.ids m.ids_room m.seats m.seats_room
+
+  -- the lent tables with other text pairs of spans
+  abbrev pub with_texts : MutBor (List (T × T)) → Tables T → Tables T
+  with_texts ms t = record { spans = t.spans; span_meta = ms; span_metrics = t.span_metrics; segment_meta = t.segment_meta; segment_metrics = t.segment_metrics; strings = t.strings; defaults = t.defaults }
+
+  -- record r lies in the span tables with both its rows
+  pub record HasRows (t : Tables T) (r : ℕ) : Type 0 where
+    pub within : r < length t.spans.now
+    pub text_row : r * 99 + 99 ≤ length t.span_meta.now
+    pub number_row : r * 54 + 54 ≤ length t.span_metrics.now

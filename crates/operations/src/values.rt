@@ -13,6 +13,13 @@ pub enum SpanField<T> {
     Duration(i64),
 }
 
+// A pair that an operation adds to a row. The number of a number pair goes by its bits.
+#[derive(Drop)]
+pub enum Pair<T> {
+    Meta(T, T),
+    Metric(T, u64),
+}
+
 // What a create's operands give.
 #[derive(Drop)]
 pub struct Making<T> {

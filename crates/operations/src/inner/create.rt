@@ -1,41 +1,51 @@
 // A create: a span is made, and its segment counts one more.
-ghost use Rattle.std.specs.Prelude.{◌≡◌, ℕ, ◌+◌, ◌*◌, ◌<◌, ◌≤◌, List, length, take};
+ghost use Rattle.std.specs.Prelude.{◌≡◌, ℕ, ◌+◌, ◌*◌, ◌<◌, ◌≤◌, List, length, take, Some, slice_set};
+ghost use Rattle.std.specs.List.{slice_get};
 ghost use Rattle.vec_map.specs.Tables.{row, OthersStay};
-ghost use Rattle.tables.specs.Store.{Store};
 ghost use Rattle.tables.specs.InOrder.{InOrder};
+ghost use Rattle.tables.specs.Lent.{passed};
+ghost use Rattle.tables.specs.Store.{Store};
 ghost use Rattle.operations.specs.Done.{gone};
-ghost use Rattle.operations.specs.Parts.{create_parts};
+ghost use Rattle.operations.specs.Parts.{with_spans, with_span_meta, with_tables, with_texts};
 ghost use Rattle.operations.specs.Made.{SameSettings, made_span, counted_in, Roomy, Puts, RecordFor, CanGrow, Makes, Enters, Creates};
 
-use crate::inner::places::{Place, record_for, seat_for};
+use crate::inner::places::{Place, seat_for, span_for};
 use crate::values::Making;
 use index::Index;
+use index::entry::Entry;
 use refusals::{ChangeBufferError, Result};
 use tables::segment::Segment;
 use tables::settings::Settings;
 use tables::span::{Mark, Span};
+use tables::tables::Tables;
 use texts::Text;
 use vec_map::head::Head;
 
-// The first pairs of a list into the front of a row.
-fn fill_row<T: Text>(row: &mut [(T, T)], pairs: &[(T, T)], count: usize)
-    requires place { count ≤ length row.old }
-    requires within { count ≤ length pairs.now }
-    ensures items { take count row.new ≡ take count pairs.now }
+// One default pair to a place of the text table.
+fn copy_default<T: Text>(tables: &mut Tables<'_, T>, default: usize, place: usize)
+    requires place { place < length tables.old.span_meta.now }
+    requires within { default < length tables.old.defaults.now }
+    ensures pair { (p : _) → slice_get tables.old.defaults.now default ≡ Some p → tables.new.span_meta.now ≡ slice_set tables.old.span_meta.now place p }
+    ensures rest { tables.new ≡ with_texts tables.new.span_meta tables.old }
 {
-    row[0..count].copy_from_slice(&pairs[0..count]);
+    tables.span_meta[place] = tables.defaults[default];
 }
 
-// The default pairs into the text row of a span; every other row stays as it is.
-fn fill_defaults<T: Text>(span_meta: &mut [(T, T)], number: usize, pairs: &[(T, T)], count: usize)
-    requires place { number * 99 + 99 ≤ length span_meta.old }
-    requires within { count ≤ length pairs.now }
+// The default pairs into the text row of a span; every other row stays as it is. They go one by one, since the check
+// does not lend a slice of a `&mut Tables` to be read.
+fn fill_defaults<T: Text>(tables: &mut Tables<'_, T>, number: usize, count: usize)
+    requires place { number * 99 + 99 ≤ length tables.old.span_meta.now }
+    requires within { count ≤ length tables.old.defaults.now }
     requires bound { count ≤ 32 }
-    ensures items { take count (row 99 number span_meta.new) ≡ take count pairs.now }
-    ensures others { OthersStay 99 number span_meta.old span_meta.new }
+    ensures items { take count (row 99 number tables.new.span_meta.now) ≡ take count tables.old.defaults.now }
+    ensures others { OthersStay 99 number tables.old.span_meta.now tables.new.span_meta.now }
+    ensures long { length tables.new.span_meta.now ≡ length tables.old.span_meta.now }
+    ensures rest { tables.new ≡ with_texts tables.new.span_meta tables.old }
 {
     let from = number * 99;
-    fill_row(&mut span_meta[from..from + 99], pairs, count);
+    for i in 0..count {
+        copy_default(tables, i, from + i);
+    }
 }
 
 // The hint moves on where the span's record is taken from the free ones: each may hold the next in place of a segment.
@@ -69,10 +79,7 @@ fn write_span<T: Text>(
             count: defaults,
             deduped: false,
         },
-        metrics: Head {
-            count: 0,
-            deduped: false,
-        },
+        metrics: Head::default(),
         trace: making.trace,
         parent: making.parent,
         start: making.start,
@@ -86,40 +93,39 @@ fn write_span<T: Text>(
 }
 
 // A put that finds room.
-fn put_number<I: Index>(index: &mut I, id: u64, number: usize)
-    requires room { Roomy (I.content index.old).held (I.content index.old).room id }
-    ensures sets { Puts (I.content index.old).held (I.content index.new).held id number }
+fn put_place<I: Index>(index: &mut I, place: Entry)
+    requires room { Roomy (I.content index.old).held (I.content index.old).room place.id }
+    ensures sets { Puts (I.content index.old).held (I.content index.new).held place.id place.number }
     ensures capacity { (I.content index.new).room ≡ (I.content index.old).room }
 {
-    let _ = index.put(id, number);
+    let _ = index.put(place.id, place.number);
 }
 
 // The span with its default pairs, in the record with this number.
 fn make_span<T: Text, S: Index>(
-    spans: &mut [Span<T>],
-    span_meta: &mut [(T, T)],
-    defaults: &[(T, T)],
+    tables: &mut Tables<'_, T>,
     settings: &mut Settings<T>,
     by_id: &mut S,
-    id: u64,
+    place: Entry,
     segment: u64,
-    number: usize,
     making: Making<T>,
 )
-    requires within { number < length spans.old }
-    requires place { number * 99 + 99 ≤ length span_meta.old }
-    requires pairs { settings.old.defaults ≤ length defaults.now }
+    requires within { place.number < length tables.old.spans.now }
+    requires place { place.number * 99 + 99 ≤ length tables.old.span_meta.now }
+    requires pairs { settings.old.defaults ≤ length tables.old.defaults.now }
     requires bound { settings.old.defaults ≤ 32 }
-    requires room { Roomy (S.content by_id.old).held (S.content by_id.old).room id }
-    ensures makes { Makes spans.old spans.new span_meta.old span_meta.new defaults.now settings.old settings.new (S.content by_id.old).held (S.content by_id.new).held id segment number making }
+    requires room { Roomy (S.content by_id.old).held (S.content by_id.old).room place.id }
+    ensures makes { Makes tables.old.spans.now tables.new.spans.now tables.old.span_meta.now tables.new.span_meta.now tables.old.defaults.now settings.old settings.new (S.content by_id.old).held (S.content by_id.new).held place.id segment place.number making }
     ensures capacity { (S.content by_id.new).room ≡ (S.content by_id.old).room }
+    ensures long { length tables.new.span_meta.now ≡ length tables.old.span_meta.now }
+    ensures rest { (m : Store T) → with_tables tables.new m ≡ with_spans tables.new.spans.now (with_span_meta tables.new.span_meta.now (with_tables tables.old m)) }
 {
     let count = settings.defaults;
-    fill_defaults(span_meta, number, defaults, count);
-    let span = &mut spans[number];
-    move_hint(settings, span, number);
-    write_span(span, id, segment, making, count);
-    put_number(by_id, id, number);
+    fill_defaults(tables, place.number, count);
+    let span = &mut tables.spans[place.number];
+    move_hint(settings, span, place.number);
+    write_span(span, place.id, segment, making, count);
+    put_place(by_id, place);
 }
 
 // One creation more names the segment; yes where it is made, empty, since none stood in the record.
@@ -135,14 +141,8 @@ fn count_one<T: Text>(segment: &mut Segment<T>, id: u64) -> bool
     *segment = Segment {
         id,
         count: 1,
-        meta: Head {
-            count: 0,
-            deduped: false,
-        },
-        metrics: Head {
-            count: 0,
-            deduped: false,
-        },
+        meta: Head::default(),
+        metrics: Head::default(),
         origin: None,
         rule: None,
         limit: None,
@@ -152,31 +152,24 @@ fn count_one<T: Text>(segment: &mut Segment<T>, id: u64) -> bool
 }
 
 // The segment in the record with this number, made if none stands there.
-fn enter_segment<T: Text, G: Index>(
-    segments: &mut [Segment<T>],
-    by_segment: &mut G,
-    id: u64,
-    seat: usize,
-)
-    requires within { seat < length segments.old }
-    requires own { RecordFor gone (G.content by_segment.old).held segments.old id seat }
-    requires bound { CanGrow segments.old seat }
-    requires room { Roomy (G.content by_segment.old).held (G.content by_segment.old).room id }
-    ensures enters { Enters segments.old segments.new (G.content by_segment.old).held (G.content by_segment.new).held id seat }
+fn enter_segment<T: Text, G: Index>(segments: &mut [Segment<T>], by_segment: &mut G, place: Entry)
+    requires within { place.number < length segments.old }
+    requires own { RecordFor gone (G.content by_segment.old).held segments.old place.id place.number }
+    requires bound { CanGrow segments.old place.number }
+    requires room { Roomy (G.content by_segment.old).held (G.content by_segment.old).room place.id }
+    ensures enters { Enters segments.old segments.new (G.content by_segment.old).held (G.content by_segment.new).held place.id place.number }
     ensures capacity { (G.content by_segment.new).room ≡ (G.content by_segment.old).room }
 {
-    if count_one(&mut segments[seat], id) {
-        put_number(by_segment, id, seat);
+    if count_one(&mut segments[place.number], place.id) {
+        put_place(by_segment, place);
     }
 }
 
 // A span is made in its own record, or a free one, and its segment is made if it is absent. Refused (11, 12) where one
 // of them finds no record, or the segment's count cannot grow.
 pub fn create<T: Text, S: Index, G: Index>(
-    spans: &mut [Span<T>],
-    span_meta: &mut [(T, T)],
+    tables: &mut Tables<'_, T>,
     segments: &mut [Segment<T>],
-    defaults: &[(T, T)],
     settings: &mut Settings<T>,
     by_id: &mut S,
     by_segment: &mut G,
@@ -184,18 +177,30 @@ pub fn create<T: Text, S: Index, G: Index>(
     segment: u64,
     making: Making<T>,
 ) -> Result<()>
-    requires order { (m : Store T) × InOrder (create_parts spans.old span_meta.old segments.old defaults.now settings.old (S.content by_id.old).held (S.content by_id.old).room (G.content by_segment.old).held (G.content by_segment.old).room m) }
-    ensures done { Creates T.bytes id segment making (create_parts spans.old span_meta.old segments.old defaults.now settings.old (S.content by_id.old).held (S.content by_id.old).room (G.content by_segment.old).held (G.content by_segment.old).room) (create_parts spans.new span_meta.new segments.new defaults.now settings.new (S.content by_id.new).held (S.content by_id.new).room (G.content by_segment.new).held (G.content by_segment.new).room) result }
+    requires order { InOrder (passed tables.old segments.old settings.old (S.content by_id.old) (G.content by_segment.old)) }
+    ensures done { Creates T.bytes id segment making (passed tables.old segments.old settings.old (S.content by_id.old) (G.content by_segment.old)) (passed tables.new segments.new settings.new (S.content by_id.new) (G.content by_segment.new)) result }
 {
-    let Some(number) = record_for(spans, by_id, id, settings.next_free) else {
-        return Err(ChangeBufferError::NoRecord(id));
-    };
-    let Some(seat) = seat_for(segments, by_segment, segment) else {
-        return Err(ChangeBufferError::NoSegmentRecord(segment));
-    };
+    let number = span_for(tables, by_id, id, settings.next_free).ok_or(ChangeBufferError::NoRecord(
+        id,
+    ))?;
+    let seat = seat_for(segments, by_segment, segment).ok_or(ChangeBufferError::NoSegmentRecord(
+        segment,
+    ))?;
     make_span(
-        spans, span_meta, defaults, settings, by_id, id, segment, number, making,
+        tables,
+        settings,
+        by_id,
+        Entry { id, number },
+        segment,
+        making,
     );
-    enter_segment(segments, by_segment, segment, seat);
+    enter_segment(
+        segments,
+        by_segment,
+        Entry {
+            id: segment,
+            number: seat,
+        },
+    );
     Ok(())
 }

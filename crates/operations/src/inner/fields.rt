@@ -5,15 +5,16 @@ ghost use Rattle.operations.specs.Fields.{with_field, field_written};
 ghost use Rattle.operations.specs.Parts.{with_spans};
 
 use crate::values::SpanField;
+use index::entry::Entry;
 use tables::span::Span;
 use texts::Text;
 
-// Sets a field of the live span with this id, whose record has this number.
-pub fn set_field<T: Text>(spans: &mut [Span<T>], id: u64, number: usize, field: SpanField<T>)
-    requires within { number < length spans.old }
-    ensures done { OnSpanHeld T.bytes id number (field_written T.bytes field) (with_spans spans.old) (with_spans spans.new) (Ok tt) }
+// Sets a field of the live span that was found.
+pub fn set_field<T: Text>(spans: &mut [Span<T>], found: Entry, field: SpanField<T>)
+    requires within { found.number < length spans.old }
+    ensures done { OnSpanHeld T.bytes found.id found.number (field_written T.bytes field) (with_spans spans.old) (with_spans spans.new) (Ok tt) }
 {
-    write_field(&mut spans[number], field);
+    write_field(&mut spans[found.number], field);
 }
 
 fn write_field<T: Text>(span: &mut Span<T>, field: SpanField<T>)

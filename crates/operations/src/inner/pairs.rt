@@ -1,52 +1,31 @@
 // One pair more on a live span.
-ghost use Rattle.std.specs.Prelude.{◌≡◌, ℕ, ◌+◌, ◌*◌, ◌<◌, ◌≤◌, length};
-ghost use Rattle.book.specs.Book.{meta, metric};
 ghost use Rattle.operations.specs.Done.{OnSpanHeld};
-ghost use Rattle.operations.specs.Parts.{with_spans, with_span_meta, with_span_metrics};
+ghost use Rattle.operations.specs.Fields.{pair_written};
+ghost use Rattle.operations.specs.Parts.{HasRows, with_tables};
 
 use crate::inner::rows::insert_below;
+use crate::values::Pair;
+use index::entry::Entry;
 use refusals::{ChangeBufferError, Result};
-use tables::span::Span;
+use tables::tables::Tables;
 use texts::Text;
 
-// A text pair on the live span with this id, whose record has this number.
-pub fn add_meta<T: Text>(
-    spans: &mut [Span<T>],
-    span_meta: &mut [(T, T)],
-    id: u64,
-    number: usize,
-    key: T,
-    value: T,
-) -> Result<()>
-    requires within { number < length spans.old }
-    requires row { number * 99 + 99 ≤ length span_meta.old }
-    ensures done { OnSpanHeld T.bytes id number (meta (T.bytes key) (T.bytes value)) (λ m. with_span_meta span_meta.old (with_spans spans.old m)) (λ m. with_span_meta span_meta.new (with_spans spans.new m)) result }
+// A pair on the live span that was found. Refused (13) where its row has no place for one more.
+pub fn add_pair<T: Text>(tables: &mut Tables<'_, T>, found: Entry, pair: Pair<T>) -> Result<()>
+    requires rows { HasRows tables.old found.number }
+    ensures done { OnSpanHeld T.bytes found.id found.number (pair_written T.bytes pair) (with_tables tables.old) (with_tables tables.new) result }
+    ensures rows { HasRows tables.new found.number }
 {
-    let head = &mut spans[number].meta;
-    if insert_below(span_meta, 99, number, 64, head, key, value) {
-        Ok(())
-    } else {
-        Err(ChangeBufferError::RowFull(id))
+    let number = found.number;
+    match pair {
+        Pair::Meta(key, value) => {
+            let head = &mut tables.spans[number].meta;
+            insert_below(tables.span_meta, 99, number, 64, head, key, value)
+        }
+        Pair::Metric(key, bits) => {
+            let head = &mut tables.spans[number].metrics;
+            insert_below(tables.span_metrics, 54, number, 32, head, key, bits)
+        }
     }
-}
-
-// A number pair; the number goes by its bits.
-pub fn add_metric<T: Text>(
-    spans: &mut [Span<T>],
-    span_metrics: &mut [(T, u64)],
-    id: u64,
-    number: usize,
-    key: T,
-    bits: u64,
-) -> Result<()>
-    requires within { number < length spans.old }
-    requires row { number * 54 + 54 ≤ length span_metrics.old }
-    ensures done { OnSpanHeld T.bytes id number (metric (T.bytes key) bits) (λ m. with_span_metrics span_metrics.old (with_spans spans.old m)) (λ m. with_span_metrics span_metrics.new (with_spans spans.new m)) result }
-{
-    let head = &mut spans[number].metrics;
-    if insert_below(span_metrics, 54, number, 32, head, key, bits) {
-        Ok(())
-    } else {
-        Err(ChangeBufferError::RowFull(id))
-    }
+    .ok_or(ChangeBufferError::RowFull(found.id))
 }

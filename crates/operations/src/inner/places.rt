@@ -1,5 +1,6 @@
 // Records for an id: its own, or one that is in no use.
 ghost use Rattle.std.specs.Prelude.{◌≡◌, ℕ, ◌<◌, Bool, length, MatchOption, ◌↔◌, IsTrue};
+ghost use Rattle.std.specs.List.{position};
 ghost use Rattle.tables.specs.Store.{free};
 ghost use Rattle.operations.specs.Done.{Unused, gone, HeldWithin};
 ghost use Rattle.operations.specs.Made.{NoneUnused, RecordFor, NoRecordFor, SeatFor, NoSeat, CanGrow};
@@ -7,6 +8,7 @@ ghost use Rattle.operations.specs.Made.{NoneUnused, RecordFor, NoRecordFor, Seat
 use index::Index;
 use tables::segment::Segment;
 use tables::span::{Mark, Span};
+use tables::tables::Tables;
 use texts::Text;
 
 // A record that may be in no use.
@@ -21,10 +23,7 @@ impl<T: Text> Place for Span<T> {
     ghost unused = { free };
 
     fn is_unused(&self) -> bool {
-        match self.mark {
-            Mark::Free => true,
-            Mark::Live | Mark::HandedOut => false,
-        }
+        self.mark == Mark::Free
     }
 }
 
@@ -39,10 +38,13 @@ impl<T: Text> Place for Segment<T> {
 fn unused_at<R: Place>(records: &[R], number: usize) -> bool
     ensures { IsTrue result ↔ (Unused R.unused records.now number) }
 {
-    if number >= records.len() {
-        return false;
-    }
-    records[number].is_unused()
+    records.get(number).is_some_and(|record| record.is_unused())
+}
+
+fn first_unused<R: Place>(records: &[R]) -> Option<usize>
+    ensures { result ≡ position R.unused records.now }
+{
+    records.iter().position(|record| record.is_unused())
 }
 
 // A record in no use: the hinted one, if it is, else the first.
@@ -50,29 +52,29 @@ fn unused<R: Place>(records: &[R], hint: usize) -> Option<usize>
     ensures { MatchOption result (NoneUnused R.unused records.now) (Unused R.unused records.now) }
 {
     if unused_at(records, hint) {
-        return Some(hint);
+        Some(hint)
+    } else {
+        first_unused(records)
     }
-    for i in 0..records.len() {
-        if unused_at(records, i) {
-            return Some(i);
-        }
-    }
-    None
 }
 
 // The record that is held for an id, else one in no use.
-pub fn record_for<R: Place, I: Index>(
-    records: &[R],
-    index: &I,
+fn record_for<R: Place, I: Index>(records: &[R], index: &I, id: u64, hint: usize) -> Option<usize>
+    ensures { MatchOption result (NoRecordFor R.unused (I.content index.now).held records.now id) (RecordFor R.unused (I.content index.now).held records.now id) }
+{
+    index.find(id).or_else(|| unused(records, hint))
+}
+
+// The record of a span: its own, else a free one.
+pub fn span_for<T: Text, S: Index>(
+    tables: &Tables<'_, T>,
+    by_id: &S,
     id: u64,
     hint: usize,
 ) -> Option<usize>
-    ensures { MatchOption result (NoRecordFor R.unused (I.content index.now).held records.now id) (RecordFor R.unused (I.content index.now).held records.now id) }
+    ensures { MatchOption result (NoRecordFor free (S.content by_id.now).held tables.now.spans.now id) (RecordFor free (S.content by_id.now).held tables.now.spans.now id) }
 {
-    match index.find(id) {
-        Some(number) => Some(number),
-        None => unused(records, hint),
-    }
+    record_for(tables.spans, by_id, id, hint)
 }
 
 fn can_grow<T: Text>(segments: &[Segment<T>], seat: usize) -> bool
@@ -93,9 +95,5 @@ pub fn seat_for<T: Text, G: Index>(
     ensures { MatchOption result (NoSeat (G.content by_segment.now).held segments.now id) (SeatFor (G.content by_segment.now).held segments.now id) }
 {
     let seat = record_for(segments, by_segment, id, by_segment.count())?;
-    if can_grow(segments, seat) {
-        Some(seat)
-    } else {
-        None
-    }
+    can_grow(segments, seat).then_some(seat)
 }

@@ -6,7 +6,7 @@ use vec_map::head::Head;
 use vec_map::key::Key;
 use vec_map::table::insert_at;
 
-// No where the row has as many pairs as the limit allows.
+// None where the row has as many pairs as the limit allows.
 pub fn insert_below<K: Key, V: Copy>(
     table: &mut [(K, V)],
     width: usize,
@@ -15,14 +15,13 @@ pub fn insert_below<K: Key, V: Copy>(
     head: &mut Head,
     key: K,
     value: V,
-) -> bool
+) -> Option<()>
     requires within { at * width + width ≤ length table.old }
     requires bound { limit ≤ width }
     ensures cases { Inserts width at limit table.old table.new head.old head.new (key, value) result }
 {
     if head.count >= limit {
-        return false;
+        return None;
     }
-    let _ = insert_at(table, width, at, head, key, value);
-    true
+    insert_at(table, width, at, head, key, value).ok()
 }

@@ -9,31 +9,31 @@ use Rattle.operations.proofs.inner.create.enter_segment.Goals as goal
 
 pub count_one-requires : goal.count_one-requires
 count_one-requires g c = record {
-  bound = c.requires.bound _ (slice_get-get_or c.args.segments.now c.args.seat c.index-segments-seat.result c.requires.within);
+  bound = c.requires.bound _ (slice_get-get_or c.args.segments.now c.args.place.number c.index-segments-place.result c.requires.within);
 }
 
 pub returns-then-count_one : goal.returns-then-count_one
 returns-then-count_one g c =
     let ys = c.args.segments.now in
-    let there = slice_get-get_or ys c.args.seat c.index-segments-seat.result c.requires.within in
+    let there = slice_get-get_or ys c.args.place.number c.index-segments-place.result c.requires.within in
     record {
       enters = record {
-        segments = λ y e. ap (set ys c.args.seat) (c.count_one.ensures.after ∙ ap (counted_in c.args.id) (same_some (slice_get ys c.args.seat) _ y there e));
-        entry = c.put_number.ensures.sets;
+        segments = λ y e. ap (set ys c.args.place.number) (c.count_one.ensures.after ∙ ap (counted_in c.args.place.id) (same_some (slice_get ys c.args.place.number) _ y there e));
+        entry = c.put_place.ensures.sets;
       };
-      capacity = c.put_number.ensures.capacity;
+      capacity = c.put_place.ensures.capacity;
     }
 
 pub returns-else-count_one : goal.returns-else-count_one
 returns-else-count_one g c =
     let ys = c.args.segments.now in
-    let there = slice_get-get_or ys c.args.seat c.index-segments-seat.result c.requires.within in
+    let there = slice_get-get_or ys c.args.place.number c.index-segments-place.result c.requires.within in
     record {
       enters = record {
-        segments = λ y e. ap (set ys c.args.seat) (c.count_one.ensures.after ∙ ap (counted_in c.args.id) (same_some (slice_get ys c.args.seat) _ y there e));
+        segments = λ y e. ap (set ys c.args.place.number) (c.count_one.ensures.after ∙ ap (counted_in c.args.place.id) (same_some (slice_get ys c.args.place.number) _ y there e));
         entry =
-            put_same (g.G.Index.content c.args.by_segment.now).held c.args.id c.args.seat
-            (own_seat (g.G.Index.content c.args.by_segment.now).held ys c.args.id c.args.seat c.requires.own _ there (sym c.if-count_one.ensures.value));
+            put_same (g.G.Index.content c.args.by_segment.now).held c.args.place.id c.args.place.number
+            (own_seat (g.G.Index.content c.args.by_segment.now).held ys c.args.place.id c.args.place.number c.requires.own _ there (sym c.if-count_one.ensures.value));
       };
       capacity = refl;
     }

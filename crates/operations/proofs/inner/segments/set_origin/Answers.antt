@@ -4,7 +4,7 @@ use Rattle.operations.proofs.Noting.{done_dropped}
 use Rattle.operations.proofs.inner.segments.set_origin.Goals as goal
 
 pub origin_at-requires : goal.origin_at-requires
-origin_at-requires g c = record { within = c.requires.within c.args.segment c.in-Some.seat (sym c.in-Some.ensures) }
+origin_at-requires g c = record { within = c.requires.within c.args.id c.in-Some.number (sym c.in-Some.ensures) }
 
 pub returns-in-Some : goal.returns-in-Some
 returns-in-Some g c = record {
@@ -12,4 +12,4 @@ returns-in-Some g c = record {
 }
 
 pub returns-in_default : goal.returns-in_default
-returns-in_default g c = record { done = λ m o. done_dropped g.T.Text.bytes _ c.args.segment _ o (sym c.in_default.ensures) }
+returns-in_default g c = record { done = λ m o. done_dropped g.T.Text.bytes _ c.args.id _ o (sym c.in_default.ensures) }

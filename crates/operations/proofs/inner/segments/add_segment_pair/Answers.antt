@@ -1,0 +1,23 @@
+use Rattle.std.proofs.Common.{length, sym}
+use Rattle.operations.specs.Parts.{with_seats}
+use Rattle.operations.proofs.Writing.{rows_within}
+use Rattle.operations.proofs.Noting.{done_dropped}
+use Rattle.operations.proofs.inner.segments.add_segment_pair.Goals as goal
+
+pub pair_at-requires : goal.pair_at-requires
+pair_at-requires g c =
+    let r = c.requires.rows in
+    let h = r.within c.args.id c.in-Some.number (sym c.in-Some.ensures) in
+    record {
+      within = h;
+      text_row = rows_within c.in-Some.number (length c.args.segments.now) 32 _ h r.text_rows;
+      number_row = rows_within c.in-Some.number (length c.args.segments.now) 16 _ h r.number_rows;
+    }
+
+pub returns-in-Some : goal.returns-in-Some
+returns-in-Some g c = record {
+  done = λ m o. c.pair_at.ensures.done (with_seats (g.G.Index.content c.args.by_segment.now).held m) o (sym c.in-Some.ensures);
+}
+
+pub returns-in-None : goal.returns-in-None
+returns-in-None g c = record { done = λ m o. done_dropped g.T.Text.bytes _ c.args.id _ o (sym c.in-None.ensures) }
