@@ -14,6 +14,9 @@ use Rattle.tables.specs.Shows.{Shows}
 use Rattle.recorder.specs.Answers.{refusal}
 use Rattle.operations.specs.Done.{ending, Done, NoneMade, gone}
 use Rattle.operations.proofs.Keeping.{records-same}
+use Rattle.interpret.specs.declared.attributes.PairKind.{PairKind}
+use Rattle.interpret.specs.declared.attributes.PairKind.TheVariants.{Meta, Metric}
+use Rattle.interpret.specs.Attributes.{pair_attribute}
 use Rattle.interpret.specs.Played.{Played, note_attribute, set_counted}
 use Rattle.interpret.proofs.Reading.{number_reads, number-misses}
 
@@ -24,13 +27,14 @@ as_attribute buffer P p a a' e e' x y h = subst (λ z. Acts (read_attribute z) b
 module _ (buffer : List ℕ) (P : Book → Type 0) (p : ℕ) where
   -- ---- pairs
 
+  pub pair_no_key : (k : PairKind) (r : Refusal) → Acts read_text buffer P p P (turned_down r) → Acts (read_attribute (pair_attribute k)) buffer P p P (turned_down r)
+  unfolding read_attribute
+  pair_no_key Meta r a = acts_stop buffer read_text _ P P p r a
+  pair_no_key Metric r a = acts_stop buffer read_text _ P P p r a
+
   pub meta_reads : (p₁ p₂ : ℕ) (k v : Text) → Acts read_text buffer P p P (reached p₁ k) → Acts read_text buffer P p₁ P (reached p₂ v) → Acts (read_attribute S_S) buffer P p P (reached p₂ (meta k v))
   unfolding read_attribute
   meta_reads p₁ p₂ k v a b = acts_then buffer read_text _ P P P p p₁ k _ a (acts_then buffer read_text _ P P P p₁ p₂ v _ b (acts-give buffer P p₂ _))
-
-  pub meta_no_key : (r : Refusal) → Acts read_text buffer P p P (turned_down r) → Acts (read_attribute S_S) buffer P p P (turned_down r)
-  unfolding read_attribute
-  meta_no_key r a = acts_stop buffer read_text _ P P p r a
 
   pub meta_no_value : (p₁ : ℕ) (k : Text) (r : Refusal) → Acts read_text buffer P p P (reached p₁ k) → Acts read_text buffer P p₁ P (turned_down r) → Acts (read_attribute S_S) buffer P p P (turned_down r)
   unfolding read_attribute
@@ -39,10 +43,6 @@ module _ (buffer : List ℕ) (P : Book → Type 0) (p : ℕ) where
   pub metric_reads : (p₁ p₂ : ℕ) (k : Text) (n : ℕ) → Acts read_text buffer P p P (reached p₁ k) → Acts read_bits buffer P p₁ P (reached p₂ n) → Acts (read_attribute S_F) buffer P p P (reached p₂ (metric k n))
   unfolding read_attribute
   metric_reads p₁ p₂ k n a b = acts_then buffer read_text _ P P P p p₁ k _ a (acts_then buffer read_bits _ P P P p₁ p₂ n _ b (acts-give buffer P p₂ _))
-
-  pub metric_no_key : (r : Refusal) → Acts read_text buffer P p P (turned_down r) → Acts (read_attribute S_F) buffer P p P (turned_down r)
-  unfolding read_attribute
-  metric_no_key r a = acts_stop buffer read_text _ P P p r a
 
   pub metric_no_value : (p₁ : ℕ) (k : Text) (r : Refusal) → Acts read_text buffer P p P (reached p₁ k) → Acts read_bits buffer P p₁ P (turned_down r) → Acts (read_attribute S_F) buffer P p P (turned_down r)
   unfolding read_attribute

@@ -1,27 +1,23 @@
--- Fields as the code names them, in the words of the table of opcodes.
-use Rattle.book.specs.Book.{Field, service, name, resource, type, start, duration, error, origin}
-use Rattle.book.specs.Flush.{Attribute, ◌by◌, S, I, i32}
-use Rattle.interpret.specs.declared.attributes.TextName.{TextName}
-use Rattle.interpret.specs.declared.attributes.TextName.TheVariants.{Service, Resource, Kind, Name}
-use Rattle.interpret.specs.declared.attributes.TimeName.{TimeName}
-use Rattle.interpret.specs.declared.attributes.TimeName.TheVariants.{Start, Duration}
+-- Fields and pairs as the code names them, in the words of the table of opcodes.
+use Rattle.book.specs.Book.{service, name, resource, type, start, duration, error, origin}
+use Rattle.book.specs.Flush.{Attribute, ◌by◌, S, I, i32, S_S, S_F}
 use Rattle.interpret.specs.declared.attributes.FieldName.{FieldName}
-use Rattle.interpret.specs.declared.attributes.FieldName.TheVariants.{Text, Time, Error}
-
-abbrev pub text_field : TextName → Field
-text_field Service = service
-text_field Resource = resource
-text_field Kind = type
-text_field Name = name
-
-abbrev pub time_field : TimeName → Field
-time_field Start = start
-time_field Duration = duration
+use Rattle.interpret.specs.declared.attributes.FieldName.TheVariants.{Service, Resource, Kind, Name, Error, Start, Duration}
+use Rattle.interpret.specs.declared.attributes.PairKind.{PairKind}
+use Rattle.interpret.specs.declared.attributes.PairKind.TheVariants.{Meta, Metric}
 
 abbrev pub attribute_of : FieldName → Attribute
-attribute_of (Text n) = text_field n by S
-attribute_of (Time n) = time_field n by I
+attribute_of Service = service by S
+attribute_of Resource = resource by S
+attribute_of Kind = type by S
+attribute_of Name = name by S
 attribute_of Error = error by i32
+attribute_of Start = start by I
+attribute_of Duration = duration by I
+
+abbrev pub pair_attribute : PairKind → Attribute
+pair_attribute Meta = S_S
+pair_attribute Metric = S_F
 
 -- a segment's origin, by a string
 abbrev pub origin_attribute : Attribute

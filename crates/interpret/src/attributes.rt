@@ -1,62 +1,21 @@
-// Fields by name, as the opcodes say them.
-ghost use Rattle.std.specs.Prelude.{◌≡◌};
-ghost use Rattle.operations.specs.Fields.{field_written};
-ghost use Rattle.book.specs.Book.{error, text, int, ◌≔◌};
-ghost use Rattle.interpret.specs.Attributes.{text_field, time_field};
+// What operations write, by name, as the opcodes say it.
 
-use operations::values::SpanField;
-use texts::Text;
-
-// The text fields of a span.
-#[derive(Clone, Copy)]
-pub enum TextName {
+// The fields of a span that an operation sets.
+#[derive(Clone, Copy, PartialEq, Eq, Debug)]
+pub enum FieldName {
     Service,
     Resource,
+    // The span's type.
     Kind,
     Name,
-}
-
-// The times of a span.
-#[derive(Clone, Copy)]
-pub enum TimeName {
+    Error,
     Start,
     Duration,
 }
 
-// The fields of a span that an operation sets.
-#[derive(Clone, Copy)]
-pub enum FieldName {
-    Text(TextName),
-    Time(TimeName),
-    Error,
-}
-
-impl TextName {
-    pub fn set_to<T: Text>(self, value: T) -> SpanField<T>
-        ensures { field_written T.bytes result ≡ text_field self ≔ text (T.bytes value) }
-    {
-        match self {
-            TextName::Service => SpanField::Service(value),
-            TextName::Resource => SpanField::Resource(value),
-            TextName::Kind => SpanField::Kind(value),
-            TextName::Name => SpanField::Name(value),
-        }
-    }
-}
-
-impl TimeName {
-    pub fn set_to<T: Text>(self, value: i64) -> SpanField<T>
-        ensures { field_written T.bytes result ≡ time_field self ≔ int value }
-    {
-        match self {
-            TimeName::Start => SpanField::Start(value),
-            TimeName::Duration => SpanField::Duration(value),
-        }
-    }
-}
-
-pub fn error_set_to<T: Text>(value: i32) -> SpanField<T>
-    ensures { field_written T.bytes result ≡ error ≔ int value }
-{
-    SpanField::Error(value)
+// A pair of two texts, or of a text and a number.
+#[derive(Clone, Copy, PartialEq, Eq, Debug)]
+pub enum PairKind {
+    Meta,
+    Metric,
 }

@@ -1,66 +1,58 @@
 // What operations write, read from a buffer.
 ghost use Rattle.std.specs.Prelude.{◌≡◌, ℕ};
 ghost use Rattle.layout.specs.Reads.{held};
-ghost use Rattle.book.specs.Book.{meta, metric};
-ghost use Rattle.book.specs.Flush.{read_attribute, S_S, S_F};
-ghost use Rattle.operations.specs.Fields.{field_written};
-ghost use Rattle.interpret.specs.Attributes.{attribute_of};
+ghost use Rattle.book.specs.Flush.{read_attribute};
+ghost use Rattle.operations.specs.Fields.{field_written, pair_written};
+ghost use Rattle.interpret.specs.Attributes.{attribute_of, pair_attribute};
 ghost use Rattle.interpret.specs.Played.{ReadsAs};
 
-use crate::attributes::{FieldName, error_set_to};
+use crate::attributes::{FieldName, PairKind};
 use layout::buffer::ChangeBuffer;
-use operations::values::SpanField;
+use operations::values::{Pair, SpanField};
 use refusals::Result;
+use tables::tables::Tables;
 use texts::Text;
 use vec_map::float::float_bits;
 
-// A text pair: a key and a value from the string table.
-pub fn read_meta<T: Text>(
+// A pair: a key and a text from the string table, or a key and a float, which goes by its bits. (A buffer and the place
+// in it go side by side, as in the original.)
+pub fn read_pair<T: Text>(
     buffer: &ChangeBuffer,
     index: &mut usize,
-    strings: &[Option<T>],
-) -> Result<(T, T)>
-    ensures reads { ReadsAs T.bytes (read_attribute S_S) strings.now (held buffer.now) index.old index.new (λ p. meta (T.bytes p.0) (T.bytes p.1)) result }
+    tables: &Tables<'_, T>,
+    kind: PairKind,
+) -> Result<Pair<T>>
+    ensures reads { ReadsAs T.bytes (read_attribute (pair_attribute kind)) tables.now.strings.now (held buffer.now) index.old index.new (pair_written T.bytes) result }
 {
-    let key = buffer.read_string(strings, index)?;
-    let value = buffer.read_string(strings, index)?;
-    Ok((key, value))
-}
-
-// A number pair: a key from the string table and a float, which goes by its bits.
-pub fn read_metric<T: Text>(
-    buffer: &ChangeBuffer,
-    index: &mut usize,
-    strings: &[Option<T>],
-) -> Result<(T, u64)>
-    ensures reads { ReadsAs T.bytes (read_attribute S_F) strings.now (held buffer.now) index.old index.new (λ p. metric (T.bytes p.0) p.1) result }
-{
-    let key = buffer.read_string(strings, index)?;
-    let value: f64 = buffer.read(index)?;
-    Ok((key, float_bits(value)))
+    let key = buffer.read_string(tables.strings, index)?;
+    match kind {
+        PairKind::Meta => {
+            let value = buffer.read_string(tables.strings, index)?;
+            Ok(Pair::Meta(key, value))
+        }
+        PairKind::Metric => {
+            let value: f64 = buffer.read(index)?;
+            Ok(Pair::Metric(key, float_bits(value)))
+        }
+    }
 }
 
 // The new value of a span's field.
 pub fn read_field<T: Text>(
     buffer: &ChangeBuffer,
     index: &mut usize,
-    strings: &[Option<T>],
+    tables: &Tables<'_, T>,
     name: FieldName,
 ) -> Result<SpanField<T>>
-    ensures reads { ReadsAs T.bytes (read_attribute (attribute_of name)) strings.now (held buffer.now) index.old index.new (field_written T.bytes) result }
+    ensures reads { ReadsAs T.bytes (read_attribute (attribute_of name)) tables.now.strings.now (held buffer.now) index.old index.new (field_written T.bytes) result }
 {
     match name {
-        FieldName::Text(text) => {
-            let value = buffer.read_string(strings, index)?;
-            Ok(text.set_to(value))
-        }
-        FieldName::Time(time) => {
-            let value: i64 = buffer.read(index)?;
-            Ok(time.set_to(value))
-        }
-        FieldName::Error => {
-            let value: i32 = buffer.read(index)?;
-            Ok(error_set_to(value))
-        }
+        FieldName::Service => Ok(SpanField::Service(buffer.read_string(tables.strings, index)?)),
+        FieldName::Resource => Ok(SpanField::Resource(buffer.read_string(tables.strings, index)?)),
+        FieldName::Kind => Ok(SpanField::Kind(buffer.read_string(tables.strings, index)?)),
+        FieldName::Name => Ok(SpanField::Name(buffer.read_string(tables.strings, index)?)),
+        FieldName::Error => Ok(SpanField::Error(buffer.read(index)?)),
+        FieldName::Start => Ok(SpanField::Start(buffer.read(index)?)),
+        FieldName::Duration => Ok(SpanField::Duration(buffer.read(index)?)),
     }
 }

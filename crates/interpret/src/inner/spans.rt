@@ -1,69 +1,47 @@
 // Operations on a live span, whose record has been found.
-ghost use Rattle.std.specs.Prelude.{◌≡◌, ℕ, ◌+◌, ◌*◌, ◌<◌, ◌≤◌, length};
+ghost use Rattle.std.specs.Prelude.{◌≡◌, ℕ};
 ghost use Rattle.layout.specs.Reads.{held};
-ghost use Rattle.book.specs.Actions.{times};
-ghost use Rattle.book.specs.Flush.{set_attribute, S_S, S_F};
-ghost use Rattle.recorder.specs.Strings.{with_strings};
-ghost use Rattle.operations.specs.Parts.{with_spans, with_span_meta, with_span_metrics};
-ghost use Rattle.interpret.specs.Attributes.{attribute_of};
+ghost use Rattle.book.specs.Flush.{set_attribute};
+ghost use Rattle.operations.specs.Parts.{HasRows, with_tables};
+ghost use Rattle.interpret.specs.Attributes.{attribute_of, pair_attribute};
 ghost use Rattle.interpret.specs.Played.{OnLive};
 
-use crate::attributes::FieldName;
-use crate::operands::{read_field, read_meta, read_metric};
+use crate::attributes::{FieldName, PairKind};
+use crate::operands::{read_field, read_pair};
+use index::entry::Entry;
 use layout::buffer::ChangeBuffer;
 use operations::inner::fields::set_field;
-use operations::inner::pairs::{add_meta, add_metric};
+use operations::inner::pairs::add_pair;
 use refusals::Result;
-use tables::span::Span;
+use tables::tables::Tables;
 use texts::Text;
 
-pub fn set_meta<T: Text>(
+pub fn set_pair<T: Text>(
     buffer: &ChangeBuffer,
     index: &mut usize,
-    strings: &[Option<T>],
-    spans: &mut [Span<T>],
-    span_meta: &mut [(T, T)],
-    id: u64,
-    number: usize,
+    tables: &mut Tables<'_, T>,
+    found: Entry,
+    kind: PairKind,
 ) -> Result<()>
-    requires within { number < length spans.old }
-    requires row { number * 99 + 99 ≤ length span_meta.old }
-    ensures played { OnLive T.bytes id number (set_attribute S_S id) (held buffer.now) (λ m. with_strings strings.now (with_span_meta span_meta.old (with_spans spans.old m))) (λ m. with_strings strings.now (with_span_meta span_meta.new (with_spans spans.new m))) index.old index.new result }
+    requires rows { HasRows tables.old found.number }
+    ensures played { OnLive T.bytes found.id found.number (set_attribute (pair_attribute kind) found.id) (held buffer.now) (with_tables tables.old) (with_tables tables.new) index.old index.new result }
+    ensures rows { HasRows tables.new found.number }
 {
-    let (key, value) = read_meta(buffer, index, strings)?;
-    add_meta(spans, span_meta, id, number, key, value)
-}
-
-pub fn set_metric<T: Text>(
-    buffer: &ChangeBuffer,
-    index: &mut usize,
-    strings: &[Option<T>],
-    spans: &mut [Span<T>],
-    span_metrics: &mut [(T, u64)],
-    id: u64,
-    number: usize,
-) -> Result<()>
-    requires within { number < length spans.old }
-    requires row { number * 54 + 54 ≤ length span_metrics.old }
-    ensures played { OnLive T.bytes id number (set_attribute S_F id) (held buffer.now) (λ m. with_strings strings.now (with_span_metrics span_metrics.old (with_spans spans.old m))) (λ m. with_strings strings.now (with_span_metrics span_metrics.new (with_spans spans.new m))) index.old index.new result }
-{
-    let (key, bits) = read_metric(buffer, index, strings)?;
-    add_metric(spans, span_metrics, id, number, key, bits)
+    let pair = read_pair(buffer, index, tables, kind)?;
+    add_pair(tables, found, pair)
 }
 
 pub fn set_span_field<T: Text>(
     buffer: &ChangeBuffer,
     index: &mut usize,
-    strings: &[Option<T>],
-    spans: &mut [Span<T>],
-    id: u64,
-    number: usize,
+    tables: &mut Tables<'_, T>,
+    found: Entry,
     name: FieldName,
 ) -> Result<()>
-    requires within { number < length spans.old }
-    ensures played { OnLive T.bytes id number (set_attribute (attribute_of name) id) (held buffer.now) (λ m. with_strings strings.now (with_spans spans.old m)) (λ m. with_strings strings.now (with_spans spans.new m)) index.old index.new result }
+    requires rows { HasRows tables.old found.number }
+    ensures played { OnLive T.bytes found.id found.number (set_attribute (attribute_of name) found.id) (held buffer.now) (with_tables tables.old) (with_tables tables.new) index.old index.new result }
 {
-    let field = read_field(buffer, index, strings, name)?;
-    set_field(spans, id, number, field);
+    let field = read_field(buffer, index, tables, name)?;
+    set_field(tables.spans, found, field);
     Ok(())
 }
