@@ -25,7 +25,6 @@ use Rattle.operations.proofs.Keeping.{records-same}
 use Rattle.interpret.specs.Creation.{fields_of}
 use Rattle.interpret.specs.Played.{Played}
 use Rattle.interpret.proofs.Reading.{refusal_is, number_reads, number-misses}
-use Rattle.flush.specs.declared.inner.found.Found.{Found}
 use Rattle.flush.specs.declared.operation.Operation.{Operation}
 use Rattle.flush.specs.declared.operation.Operation.TheVariants.{Creates, Spans, Segments}
 use Rattle.flush.specs.Flushes.{Flushes}
@@ -33,7 +32,7 @@ use Rattle.flush.specs.Found.{Cached}
 use Rattle.flush.specs.Operation.{meaning, made_by, Created}
 
 -- what was found last stays found
-pub still_cached : (es es' : List Entry) (last : Option Found) → ((id r : ℕ) → at es id ≡ Some r → at es' id ≡ Some r) → Cached es last → Cached es' last
+pub still_cached : (es es' : List Entry) (last : Option Entry) → ((id r : ℕ) → at es id ≡ Some r → at es' id ≡ Some r) → Cached es last → Cached es' last
 still_cached es es' None stays c = tt
 still_cached es es' (Some f) stays c = stays f.id f.number c
 

@@ -9,7 +9,7 @@ use Rattle.book.specs.Book as book
 use Rattle.book.specs.Refusals.{because, span_not_found}
 use Rattle.book.specs.Actions.{Act, ◌>>=◌, look, the, times, read}
 use Rattle.book.specs.Acts.{Ending, turned_down, Ended, Acts}
-use Rattle.book.specs.Flush.{Operand, Attribute, S_S, S_F, create, on_segment, live_span, read_attribute, write_segment, set_attribute, make, perform}
+use Rattle.book.specs.Flush.{Operand, Attribute, create, on_segment, live_span, read_attribute, write_segment, set_attribute, make, perform}
 use Rattle.book.proofs.Acted.{acts-from, acts_as, acts-find, acts-missing, acts_stop}
 use Rattle.book.proofs.Boths.{both-left-none}
 use Rattle.tables.specs.Store.{Store, chained, span_at, free}
@@ -20,12 +20,12 @@ use Rattle.operations.specs.Done.{ending, NoneMade, gone}
 use Rattle.operations.proofs.Keeping.{records-same}
 use Rattle.operations.proofs.Spans.{span_own}
 use Rattle.operations.proofs.Creating.{ids-within, at-number}
-use Rattle.interpret.specs.Attributes.{attribute_of}
+use Rattle.interpret.specs.Attributes.{attribute_of, pair_attribute}
 use Rattle.interpret.specs.Creation.{read_create}
 use Rattle.interpret.specs.Played.{Played, note_attribute, set_counted}
 use Rattle.interpret.proofs.Creations.{perform-create}
 use Rattle.flush.specs.declared.operation.OnSpan.{OnSpan}
-use Rattle.flush.specs.declared.operation.OnSpan.TheVariants.{Field, BatchMeta, BatchMetric}
+use Rattle.flush.specs.declared.operation.OnSpan.TheVariants.{Field, Batch}
 use Rattle.flush.specs.declared.operation.OnSpan.TheVariants as span
 use Rattle.flush.specs.Found.{SegmentAt}
 use Rattle.flush.specs.Operation.{span_meaning, span_act}
@@ -109,19 +109,15 @@ module _ {T : Type 0} (bytes : T → Text) (buffer : List ℕ) where
       -- an operation on the span
       pub span_then : (operation : OnSpan) (m' : Store T) (p' : ℕ) (a : Result (Unit {0}) ChangeBufferError) → Played bytes (span_act operation id) NoneMade buffer m m' p p' a → Played bytes (perform (span_meaning operation) id) NoneMade buffer m m' p p' a
       unfolding perform set_counted
-      span_then span.Meta m' p' a d = found_then (set_attribute S_S id) _ m' p' a (λ b rest. refl) d
-      span_then span.Metric m' p' a d = found_then (set_attribute S_F id) _ m' p' a (λ b rest. refl) d
+      span_then (span.Pair k) m' p' a d = found_then (set_attribute (pair_attribute k) id) _ m' p' a (λ b rest. refl) d
       span_then (Field n) m' p' a d = found_then (set_attribute (attribute_of n) id) _ m' p' a (λ b rest. refl) d
-      span_then BatchMeta m' p' a d = found_then (set_counted S_S id) _ m' p' a (λ b rest. refl) d
-      span_then BatchMetric m' p' a d = found_then (set_counted S_F id) _ m' p' a (λ b rest. refl) d
+      span_then (Batch k) m' p' a d = found_then (set_counted (pair_attribute k) id) _ m' p' a (λ b rest. refl) d
 
     pub span-missing : (operation : OnSpan) (p' : ℕ) (e : ChangeBufferError) → InOrder m → at m.ids id ≡ None → e ≡ SpanNotFound id → Played bytes (perform (span_meaning operation) id) NoneMade buffer m m p p' (Err e)
     unfolding perform
-    span-missing span.Meta p' e o none is = not_found _ (λ _. set_attribute S_S id) p' e (λ b rest. refl) o none is
-    span-missing span.Metric p' e o none is = not_found _ (λ _. set_attribute S_F id) p' e (λ b rest. refl) o none is
+    span-missing (span.Pair k) p' e o none is = not_found _ (λ _. set_attribute (pair_attribute k) id) p' e (λ b rest. refl) o none is
     span-missing (Field n) p' e o none is = not_found _ (λ _. set_attribute (attribute_of n) id) p' e (λ b rest. refl) o none is
-    span-missing BatchMeta p' e o none is = not_found _ (λ _. read 4 >>= (λ n. times n (set_attribute S_S id))) p' e (λ b rest. refl) o none is
-    span-missing BatchMetric p' e o none is = not_found _ (λ _. read 4 >>= (λ n. times n (set_attribute S_F id))) p' e (λ b rest. refl) o none is
+    span-missing (Batch k) p' e o none is = not_found _ (λ _. read 4 >>= (λ n. times n (set_attribute (pair_attribute k) id))) p' e (λ b rest. refl) o none is
 
     pub segment-missing : (a : Attribute) (p' : ℕ) (e : ChangeBufferError) → InOrder m → at m.ids id ≡ None → e ≡ SpanNotFound id → Played bytes (perform (on_segment a) id) NoneMade buffer m m p p' (Err e)
     unfolding perform

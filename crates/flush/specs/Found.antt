@@ -6,16 +6,15 @@ use Rattle.index.specs.Held.{at}
 use Rattle.refusals.specs.declared.ChangeBufferError.{ChangeBufferError}
 use Rattle.refusals.specs.declared.ChangeBufferError.TheVariants.{SpanNotFound}
 use Rattle.tables.specs.declared.span.Span.{Span}
-use Rattle.flush.specs.declared.inner.found.Found.{Found}
 
 -- what was found last, if anything, is still so
-abbrev pub Cached : List Entry → Option Found → Type 0
+abbrev pub Cached : List Entry → Option Entry → Type 0
 Cached es None = Unit {0}
 Cached es (Some f) = at es f.id ≡ Some f.number
 
--- the number of the id's record; refused where it has none
-abbrev pub Finds : List Entry → ℕ → Result ℕ ChangeBufferError → Type 0
-Finds es id (Ok r) = at es id ≡ Some r
+-- the id, and the number of its record; refused where it has none
+abbrev pub Finds : List Entry → ℕ → Result Entry ChangeBufferError → Type 0
+Finds es id (Ok f) = (f.id ≡ id) × (at es id ≡ Some f.number)
 Finds es id (Err e) = (at es id ≡ None) × (e ≡ SpanNotFound id)
 
 -- the segment's id in the record with a number

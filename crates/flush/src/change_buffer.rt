@@ -3,7 +3,7 @@ ghost use Rattle.std.specs.Prelude.{◌≡◌};
 ghost use Rattle.book.specs.Calls.{change_buffer};
 ghost use Rattle.book.specs.Flush.{buffer_after};
 ghost use Rattle.tables.specs.InOrder.{InOrder};
-ghost use Rattle.tables.specs.Lent.{passed, left};
+ghost use Rattle.tables.specs.Lent.{passed};
 ghost use Rattle.recorder.specs.Answers.{answer};
 ghost use Rattle.recorder.specs.Performs.{Performs};
 ghost use Rattle.operations.specs.Done.{SpansKept, SegmentsKept};
@@ -12,7 +12,7 @@ ghost use Rattle.flush.specs.Operation.{Created};
 use crate::inner::flushing::flush_bytes;
 use index::Index;
 use refusals::ChangeBufferError;
-use tables::order::in_order;
+use tables::order::tables_in_order;
 use tables::segment::Segment;
 use tables::settings::Settings;
 use tables::tables::Tables;
@@ -21,55 +21,21 @@ use texts::Text;
 // Plays the operations of a buffer one after another, up to the first that is refused. An accepted flush zeroes the
 // buffer's count; a refused one leaves the buffer as it is, and what came before the refusal stays written.
 pub fn flush_change_buffer<T: Text, S: Index, G: Index>(
-    tables: Tables<'_, T>,
+    tables: &mut Tables<'_, T>,
     segments: &mut [Segment<T>],
     settings: &mut Settings<T>,
     by_id: &mut S,
     by_segment: &mut G,
     buffer: &mut [u8],
 ) -> Result<(), ChangeBufferError>
-    ensures call { Performs T.bytes (change_buffer buffer.old) (passed tables.entry segments.old settings.old (S.content by_id.old) (G.content by_segment.old)) (left tables.exit segments.new settings.new (S.content by_id.new) (G.content by_segment.new)) (answer result) }
+    ensures call { Performs T.bytes (change_buffer buffer.old) (passed tables.old segments.old settings.old (S.content by_id.old) (G.content by_segment.old)) (passed tables.new segments.new settings.new (S.content by_id.new) (G.content by_segment.new)) (answer result) }
     ensures after { buffer.new ≡ buffer_after (answer result) buffer.old }
-    ensures order { InOrder (passed tables.entry segments.old settings.old (S.content by_id.old) (G.content by_segment.old)) → InOrder (left tables.exit segments.new settings.new (S.content by_id.new) (G.content by_segment.new)) }
-    ensures spans { SpansKept (Created buffer.old) (passed tables.entry segments.old settings.old (S.content by_id.old) (G.content by_segment.old)) (left tables.exit segments.new settings.new (S.content by_id.new) (G.content by_segment.new)) }
-    ensures segments { SegmentsKept (passed tables.entry segments.old settings.old (S.content by_id.old) (G.content by_segment.old)) (left tables.exit segments.new settings.new (S.content by_id.new) (G.content by_segment.new)) }
+    ensures order { InOrder (passed tables.old segments.old settings.old (S.content by_id.old) (G.content by_segment.old)) → InOrder (passed tables.new segments.new settings.new (S.content by_id.new) (G.content by_segment.new)) }
+    ensures spans { SpansKept (Created buffer.old) (passed tables.old segments.old settings.old (S.content by_id.old) (G.content by_segment.old)) (passed tables.new segments.new settings.new (S.content by_id.new) (G.content by_segment.new)) }
+    ensures segments { SegmentsKept (passed tables.old segments.old settings.old (S.content by_id.old) (G.content by_segment.old)) (passed tables.new segments.new settings.new (S.content by_id.new) (G.content by_segment.new)) }
 {
-    let Tables {
-        spans,
-        span_meta,
-        span_metrics,
-        segment_meta,
-        segment_metrics,
-        strings,
-        defaults,
-    } = tables;
-    if !in_order(
-        spans,
-        span_meta,
-        span_metrics,
-        segments,
-        segment_meta,
-        segment_metrics,
-        strings,
-        defaults,
-        settings,
-        by_id,
-        by_segment,
-    ) {
+    if !tables_in_order(tables, segments, settings, by_id, by_segment) {
         return Err(ChangeBufferError::OutOfOrder);
     }
-    flush_bytes(
-        buffer,
-        spans,
-        span_meta,
-        span_metrics,
-        segments,
-        segment_meta,
-        segment_metrics,
-        strings,
-        defaults,
-        settings,
-        by_id,
-        by_segment,
-    )
+    flush_bytes(buffer, tables, segments, settings, by_id, by_segment)
 }

@@ -5,25 +5,22 @@ ghost use Rattle.book.specs.Maps.{find};
 ghost use Rattle.book.specs.Flush.{table};
 ghost use Rattle.flush.specs.Operation.{meaning};
 
-use interpret::attributes::{FieldName, TextName, TimeName};
+use interpret::attributes::{FieldName, PairKind};
 use interpret::creation::Extra;
 use layout::operation::OpCode;
 
 // An operation on a live span.
-#[derive(Clone, Copy)]
+#[derive(Clone, Copy, PartialEq, Eq, Debug)]
 pub enum OnSpan {
-    Meta,
-    Metric,
+    Pair(PairKind),
     Field(FieldName),
-    BatchMeta,
-    BatchMetric,
+    Batch(PairKind),
 }
 
 // An operation on the segment of a live span.
-#[derive(Clone, Copy)]
+#[derive(Clone, Copy, PartialEq, Eq, Debug)]
 pub enum OnSegment {
-    Meta,
-    Metric,
+    Pair(PairKind),
     Origin,
 }
 
@@ -34,6 +31,7 @@ pub enum Operation {
     Segments(OnSegment),
 }
 
+// A function and not a `From`, whose answer the specs would have to give by a second table beside the book's.
 pub fn operation_of(opcode: OpCode) -> Operation
     ensures { find (code opcode) table ≡ Some (meaning result) }
 {
@@ -41,23 +39,19 @@ pub fn operation_of(opcode: OpCode) -> Operation
         OpCode::Create => Operation::Creates(Extra::Bare),
         OpCode::CreateSpan => Operation::Creates(Extra::Named),
         OpCode::CreateSpanFull => Operation::Creates(Extra::Full),
-        OpCode::SetMetaAttr => Operation::Spans(OnSpan::Meta),
-        OpCode::SetMetricAttr => Operation::Spans(OnSpan::Metric),
-        OpCode::SetServiceName => Operation::Spans(OnSpan::Field(FieldName::Text(
-            TextName::Service,
-        ))),
-        OpCode::SetResourceName => Operation::Spans(OnSpan::Field(FieldName::Text(
-            TextName::Resource,
-        ))),
-        OpCode::SetType => Operation::Spans(OnSpan::Field(FieldName::Text(TextName::Kind))),
-        OpCode::SetName => Operation::Spans(OnSpan::Field(FieldName::Text(TextName::Name))),
+        OpCode::SetMetaAttr => Operation::Spans(OnSpan::Pair(PairKind::Meta)),
+        OpCode::SetMetricAttr => Operation::Spans(OnSpan::Pair(PairKind::Metric)),
+        OpCode::SetServiceName => Operation::Spans(OnSpan::Field(FieldName::Service)),
+        OpCode::SetResourceName => Operation::Spans(OnSpan::Field(FieldName::Resource)),
+        OpCode::SetType => Operation::Spans(OnSpan::Field(FieldName::Kind)),
+        OpCode::SetName => Operation::Spans(OnSpan::Field(FieldName::Name)),
         OpCode::SetError => Operation::Spans(OnSpan::Field(FieldName::Error)),
-        OpCode::SetStart => Operation::Spans(OnSpan::Field(FieldName::Time(TimeName::Start))),
-        OpCode::SetDuration => Operation::Spans(OnSpan::Field(FieldName::Time(TimeName::Duration))),
-        OpCode::BatchSetMeta => Operation::Spans(OnSpan::BatchMeta),
-        OpCode::BatchSetMetric => Operation::Spans(OnSpan::BatchMetric),
-        OpCode::SetTraceMetaAttr => Operation::Segments(OnSegment::Meta),
-        OpCode::SetTraceMetricsAttr => Operation::Segments(OnSegment::Metric),
+        OpCode::SetStart => Operation::Spans(OnSpan::Field(FieldName::Start)),
+        OpCode::SetDuration => Operation::Spans(OnSpan::Field(FieldName::Duration)),
+        OpCode::BatchSetMeta => Operation::Spans(OnSpan::Batch(PairKind::Meta)),
+        OpCode::BatchSetMetric => Operation::Spans(OnSpan::Batch(PairKind::Metric)),
+        OpCode::SetTraceMetaAttr => Operation::Segments(OnSegment::Pair(PairKind::Meta)),
+        OpCode::SetTraceMetricsAttr => Operation::Segments(OnSegment::Pair(PairKind::Metric)),
         OpCode::SetTraceOrigin => Operation::Segments(OnSegment::Origin),
     }
 }

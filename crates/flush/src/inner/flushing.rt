@@ -4,7 +4,7 @@ ghost use Rattle.layout.specs.Reads.{held};
 ghost use Rattle.book.specs.Actions.{times};
 ghost use Rattle.book.specs.Flush.{perform as performs, operation as one-operation, operations as all-operations};
 ghost use Rattle.tables.specs.InOrder.{InOrder};
-ghost use Rattle.tables.specs.Store.{store};
+ghost use Rattle.tables.specs.Lent.{passed};
 ghost use Rattle.interpret.specs.Played.{Played};
 ghost use Rattle.book.specs.Flush.{buffer_after};
 ghost use Rattle.recorder.specs.Answers.{answer};
@@ -13,76 +13,50 @@ ghost use Rattle.flush.specs.Flushes.{Flushes};
 ghost use Rattle.flush.specs.Operation.{meaning, made_by, Created};
 
 use crate::inner::creates::create_span;
-use crate::inner::found::{Found, find_span, segment_of};
+use crate::inner::found::{find_span, segment_of};
 use crate::inner::segments::on_segment;
 use crate::inner::spans::on_span;
 use crate::operation::{Operation, operation_of};
 use index::Index;
+use index::entry::Entry;
 use layout::buffer::{ChangeBuffer, clear_count};
 use layout::operation::BufferedOperation;
 use refusals::Result;
 use tables::segment::Segment;
 use tables::settings::Settings;
-use tables::span::Span;
+use tables::tables::Tables;
 use texts::Text;
 
 // A create looks at the tables after its last operand; every other operation finds its live span before the first.
 fn perform<T: Text, S: Index, G: Index>(
     buffer: &ChangeBuffer,
     index: &mut usize,
-    last: &mut Option<Found>,
-    spans: &mut [Span<T>],
-    span_meta: &mut [(T, T)],
-    span_metrics: &mut [(T, u64)],
+    last: &mut Option<Entry>,
+    tables: &mut Tables<'_, T>,
     segments: &mut [Segment<T>],
-    segment_meta: &mut [(T, T)],
-    segment_metrics: &mut [(T, u64)],
-    strings: &[Option<T>],
-    defaults: &[(T, T)],
     settings: &mut Settings<T>,
     by_id: &mut S,
     by_segment: &mut G,
     id: u64,
     operation: Operation,
 ) -> Result<()>
-    requires order { InOrder (store spans.old span_meta.old span_metrics.old segments.old segment_meta.old segment_metrics.old strings.now defaults.now settings.old (S.content by_id.old).held (S.content by_id.old).room (G.content by_segment.old).held (G.content by_segment.old).room) }
+    requires order { InOrder (passed tables.old segments.old settings.old (S.content by_id.old) (G.content by_segment.old)) }
     requires cached { Cached (S.content by_id.old).held last.old }
-    ensures played { Played T.bytes (performs (meaning operation) id) (made_by operation id) (held buffer.now) (store spans.old span_meta.old span_metrics.old segments.old segment_meta.old segment_metrics.old strings.now defaults.now settings.old (S.content by_id.old).held (S.content by_id.old).room (G.content by_segment.old).held (G.content by_segment.old).room) (store spans.new span_meta.new span_metrics.new segments.new segment_meta.new segment_metrics.new strings.now defaults.now settings.new (S.content by_id.new).held (S.content by_id.new).room (G.content by_segment.new).held (G.content by_segment.new).room) index.old index.new result }
+    ensures played { Played T.bytes (performs (meaning operation) id) (made_by operation id) (held buffer.now) (passed tables.old segments.old settings.old (S.content by_id.old) (G.content by_segment.old)) (passed tables.new segments.new settings.new (S.content by_id.new) (G.content by_segment.new)) index.old index.new result }
     ensures cached { Cached (S.content by_id.new).held last.new }
 {
     match operation {
         Operation::Creates(extra) => create_span(
-            buffer, index, strings, spans, span_meta, segments, defaults, settings, by_id,
-            by_segment, id, extra,
+            buffer, index, tables, segments, settings, by_id, by_segment, id, extra,
         ),
         Operation::Spans(on) => {
-            let number = find_span(by_id, last, id)?;
-            on_span(
-                buffer,
-                index,
-                strings,
-                spans,
-                span_meta,
-                span_metrics,
-                id,
-                number,
-                on,
-            )
+            let found = find_span(by_id, last, id)?;
+            on_span(buffer, index, tables, found, on)
         }
         Operation::Segments(on) => {
-            let number = find_span(by_id, last, id)?;
-            let segment = segment_of(spans, number);
-            on_segment(
-                buffer,
-                index,
-                strings,
-                segments,
-                segment_meta,
-                segment_metrics,
-                by_segment,
-                segment,
-                on,
-            )
+            let found = find_span(by_id, last, id)?;
+            let segment = segment_of(tables, found);
+            on_segment(buffer, index, tables, segments, by_segment, segment, on)
         }
     }
 }
@@ -90,22 +64,16 @@ fn perform<T: Text, S: Index, G: Index>(
 fn operate<T: Text, S: Index, G: Index>(
     buffer: &ChangeBuffer,
     index: &mut usize,
-    last: &mut Option<Found>,
-    spans: &mut [Span<T>],
-    span_meta: &mut [(T, T)],
-    span_metrics: &mut [(T, u64)],
+    last: &mut Option<Entry>,
+    tables: &mut Tables<'_, T>,
     segments: &mut [Segment<T>],
-    segment_meta: &mut [(T, T)],
-    segment_metrics: &mut [(T, u64)],
-    strings: &[Option<T>],
-    defaults: &[(T, T)],
     settings: &mut Settings<T>,
     by_id: &mut S,
     by_segment: &mut G,
 ) -> Result<()>
-    requires order { InOrder (store spans.old span_meta.old span_metrics.old segments.old segment_meta.old segment_metrics.old strings.now defaults.now settings.old (S.content by_id.old).held (S.content by_id.old).room (G.content by_segment.old).held (G.content by_segment.old).room) }
+    requires order { InOrder (passed tables.old segments.old settings.old (S.content by_id.old) (G.content by_segment.old)) }
     requires cached { Cached (S.content by_id.old).held last.old }
-    ensures played { Played T.bytes one-operation (Created (held buffer.now)) (held buffer.now) (store spans.old span_meta.old span_metrics.old segments.old segment_meta.old segment_metrics.old strings.now defaults.now settings.old (S.content by_id.old).held (S.content by_id.old).room (G.content by_segment.old).held (G.content by_segment.old).room) (store spans.new span_meta.new span_metrics.new segments.new segment_meta.new segment_metrics.new strings.now defaults.now settings.new (S.content by_id.new).held (S.content by_id.new).room (G.content by_segment.new).held (G.content by_segment.new).room) index.old index.new result }
+    ensures played { Played T.bytes one-operation (Created (held buffer.now)) (held buffer.now) (passed tables.old segments.old settings.old (S.content by_id.old) (G.content by_segment.old)) (passed tables.new segments.new settings.new (S.content by_id.new) (G.content by_segment.new)) index.old index.new result }
     ensures cached { Cached (S.content by_id.new).held last.new }
 {
     let head = BufferedOperation::from_buf(buffer, index)?;
@@ -114,14 +82,8 @@ fn operate<T: Text, S: Index, G: Index>(
         buffer,
         index,
         last,
-        spans,
-        span_meta,
-        span_metrics,
+        tables,
         segments,
-        segment_meta,
-        segment_metrics,
-        strings,
-        defaults,
         settings,
         by_id,
         by_segment,
@@ -133,39 +95,20 @@ fn operate<T: Text, S: Index, G: Index>(
 fn operate_times<T: Text, S: Index, G: Index>(
     buffer: &ChangeBuffer,
     index: &mut usize,
-    spans: &mut [Span<T>],
-    span_meta: &mut [(T, T)],
-    span_metrics: &mut [(T, u64)],
+    tables: &mut Tables<'_, T>,
     segments: &mut [Segment<T>],
-    segment_meta: &mut [(T, T)],
-    segment_metrics: &mut [(T, u64)],
-    strings: &[Option<T>],
-    defaults: &[(T, T)],
     settings: &mut Settings<T>,
     by_id: &mut S,
     by_segment: &mut G,
     count: u32,
 ) -> Result<()>
-    requires order { InOrder (store spans.old span_meta.old span_metrics.old segments.old segment_meta.old segment_metrics.old strings.now defaults.now settings.old (S.content by_id.old).held (S.content by_id.old).room (G.content by_segment.old).held (G.content by_segment.old).room) }
-    ensures played { Played T.bytes (times count one-operation) (Created (held buffer.now)) (held buffer.now) (store spans.old span_meta.old span_metrics.old segments.old segment_meta.old segment_metrics.old strings.now defaults.now settings.old (S.content by_id.old).held (S.content by_id.old).room (G.content by_segment.old).held (G.content by_segment.old).room) (store spans.new span_meta.new span_metrics.new segments.new segment_meta.new segment_metrics.new strings.now defaults.now settings.new (S.content by_id.new).held (S.content by_id.new).room (G.content by_segment.new).held (G.content by_segment.new).room) index.old index.new result }
+    requires order { InOrder (passed tables.old segments.old settings.old (S.content by_id.old) (G.content by_segment.old)) }
+    ensures played { Played T.bytes (times count one-operation) (Created (held buffer.now)) (held buffer.now) (passed tables.old segments.old settings.old (S.content by_id.old) (G.content by_segment.old)) (passed tables.new segments.new settings.new (S.content by_id.new) (G.content by_segment.new)) index.old index.new result }
 {
     let mut last = None;
-    for i in 0..count {
+    for _ in 0..count {
         operate(
-            buffer,
-            index,
-            &mut last,
-            spans,
-            span_meta,
-            span_metrics,
-            segments,
-            segment_meta,
-            segment_metrics,
-            strings,
-            defaults,
-            settings,
-            by_id,
-            by_segment,
+            buffer, index, &mut last, tables, segments, settings, by_id, by_segment,
         )?;
     }
     Ok(())
@@ -175,76 +118,47 @@ fn operate_times<T: Text, S: Index, G: Index>(
 pub fn flush<T: Text, S: Index, G: Index>(
     buffer: &ChangeBuffer,
     index: &mut usize,
-    spans: &mut [Span<T>],
-    span_meta: &mut [(T, T)],
-    span_metrics: &mut [(T, u64)],
+    tables: &mut Tables<'_, T>,
     segments: &mut [Segment<T>],
-    segment_meta: &mut [(T, T)],
-    segment_metrics: &mut [(T, u64)],
-    strings: &[Option<T>],
-    defaults: &[(T, T)],
     settings: &mut Settings<T>,
     by_id: &mut S,
     by_segment: &mut G,
 ) -> Result<()>
-    requires order { InOrder (store spans.old span_meta.old span_metrics.old segments.old segment_meta.old segment_metrics.old strings.now defaults.now settings.old (S.content by_id.old).held (S.content by_id.old).room (G.content by_segment.old).held (G.content by_segment.old).room) }
-    ensures played { Played T.bytes all-operations (Created (held buffer.now)) (held buffer.now) (store spans.old span_meta.old span_metrics.old segments.old segment_meta.old segment_metrics.old strings.now defaults.now settings.old (S.content by_id.old).held (S.content by_id.old).room (G.content by_segment.old).held (G.content by_segment.old).room) (store spans.new span_meta.new span_metrics.new segments.new segment_meta.new segment_metrics.new strings.now defaults.now settings.new (S.content by_id.new).held (S.content by_id.new).room (G.content by_segment.new).held (G.content by_segment.new).room) index.old index.new result }
+    requires order { InOrder (passed tables.old segments.old settings.old (S.content by_id.old) (G.content by_segment.old)) }
+    ensures played { Played T.bytes all-operations (Created (held buffer.now)) (held buffer.now) (passed tables.old segments.old settings.old (S.content by_id.old) (G.content by_segment.old)) (passed tables.new segments.new settings.new (S.content by_id.new) (G.content by_segment.new)) index.old index.new result }
     ensures bound { OnOk result (index.old + 8 ≤ length (held buffer.now)) }
 {
     let count: u64 = buffer.read(index)?;
+    // A remainder, since a cast is proved to lose nothing.
     operate_times(
         buffer,
         index,
-        spans,
-        span_meta,
-        span_metrics,
+        tables,
         segments,
-        segment_meta,
-        segment_metrics,
-        strings,
-        defaults,
         settings,
         by_id,
         by_segment,
-        (count % 4294967296) as u32,
+        (count % 0x1_0000_0000) as u32,
     )
 }
 
 // The flush of a buffer's bytes, whose count is zero afterwards if all of it was accepted.
 pub fn flush_bytes<T: Text, S: Index, G: Index>(
     bytes: &mut [u8],
-    spans: &mut [Span<T>],
-    span_meta: &mut [(T, T)],
-    span_metrics: &mut [(T, u64)],
+    tables: &mut Tables<'_, T>,
     segments: &mut [Segment<T>],
-    segment_meta: &mut [(T, T)],
-    segment_metrics: &mut [(T, u64)],
-    strings: &[Option<T>],
-    defaults: &[(T, T)],
     settings: &mut Settings<T>,
     by_id: &mut S,
     by_segment: &mut G,
 ) -> Result<()>
-    requires order { InOrder (store spans.old span_meta.old span_metrics.old segments.old segment_meta.old segment_metrics.old strings.now defaults.now settings.old (S.content by_id.old).held (S.content by_id.old).room (G.content by_segment.old).held (G.content by_segment.old).room) }
-    ensures flushes { Flushes T.bytes bytes.old (store spans.old span_meta.old span_metrics.old segments.old segment_meta.old segment_metrics.old strings.now defaults.now settings.old (S.content by_id.old).held (S.content by_id.old).room (G.content by_segment.old).held (G.content by_segment.old).room) (store spans.new span_meta.new span_metrics.new segments.new segment_meta.new segment_metrics.new strings.now defaults.now settings.new (S.content by_id.new).held (S.content by_id.new).room (G.content by_segment.new).held (G.content by_segment.new).room) (answer result) }
+    requires order { InOrder (passed tables.old segments.old settings.old (S.content by_id.old) (G.content by_segment.old)) }
+    ensures flushes { Flushes T.bytes bytes.old (passed tables.old segments.old settings.old (S.content by_id.old) (G.content by_segment.old)) (passed tables.new segments.new settings.new (S.content by_id.new) (G.content by_segment.new)) (answer result) }
     ensures after { bytes.new ≡ buffer_after (answer result) bytes.old }
 {
     let buffer = ChangeBuffer::new(bytes);
     let mut index = 0;
     flush(
-        &buffer,
-        &mut index,
-        spans,
-        span_meta,
-        span_metrics,
-        segments,
-        segment_meta,
-        segment_metrics,
-        strings,
-        defaults,
-        settings,
-        by_id,
-        by_segment,
+        &buffer, &mut index, tables, segments, settings, by_id, by_segment,
     )?;
     clear_count(bytes);
     Ok(())

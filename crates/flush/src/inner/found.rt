@@ -3,42 +3,32 @@ ghost use Rattle.std.specs.Prelude.{◌≡◌, ℕ, ◌<◌, length};
 ghost use Rattle.flush.specs.Found.{Cached, Finds, SegmentAt};
 
 use index::Index;
+use index::entry::Entry;
 use refusals::{ChangeBufferError, Result};
-use tables::span::Span;
+use tables::tables::Tables;
 use texts::Text;
 
-// A live span and the number of its record.
-#[derive(Clone, Copy)]
-pub struct Found {
-    pub id: u64,
-    pub number: usize,
-}
-
 // Looks into the index only where another span was found last.
-pub fn find_span<S: Index>(by_id: &S, last: &mut Option<Found>, id: u64) -> Result<usize>
+pub fn find_span<S: Index>(by_id: &S, last: &mut Option<Entry>, id: u64) -> Result<Entry>
     requires cached { Cached (S.content by_id.now).held last.old }
     ensures cached { Cached (S.content by_id.now).held last.new }
     ensures finds { Finds (S.content by_id.now).held id result }
 {
-    let kept = *last;
-    if let Some(found) = kept {
-        if found.id == id {
-            return Ok(found.number);
+    match *last {
+        Some(found) if found.id == id => Ok(found),
+        _ => {
+            let number = by_id.find(id).ok_or(ChangeBufferError::SpanNotFound(id))?;
+            let found = Entry { id, number };
+            *last = Some(found);
+            Ok(found)
         }
-    }
-    match by_id.find(id) {
-        Some(number) => {
-            *last = Some(Found { id, number });
-            Ok(number)
-        }
-        None => Err(ChangeBufferError::SpanNotFound(id)),
     }
 }
 
 // The id of a span's segment.
-pub fn segment_of<T: Text>(spans: &[Span<T>], number: usize) -> u64
-    requires { number < length spans.now }
-    ensures { SegmentAt spans.now number result }
+pub fn segment_of<T: Text>(tables: &Tables<'_, T>, found: Entry) -> u64
+    requires { found.number < length tables.now.spans.now }
+    ensures { SegmentAt tables.now.spans.now found.number result }
 {
-    spans[number].segment
+    tables.spans[found.number].segment
 }

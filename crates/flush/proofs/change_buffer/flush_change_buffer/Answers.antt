@@ -7,9 +7,9 @@ use Rattle.operations.proofs.Keeping.{records-same}
 use Rattle.flush.specs.Operation.{Created}
 use Rattle.flush.proofs.change_buffer.flush_change_buffer.Goals as goal
 
-pub returns-then-not-in_order : goal.returns-then-not-in_order
-returns-then-not-in_order g c = record {
-  call = turned-away g.T.Text.bytes (change_buffer c.args.buffer.now) _ (no_order c.in_order.result c.if-not-in_order.true c.in_order.ensures);
+pub returns-then-not-tables_in_order : goal.returns-then-not-tables_in_order
+returns-then-not-tables_in_order g c = record {
+  call = turned-away g.T.Text.bytes (change_buffer c.args.buffer.now) _ (no_order c.tables_in_order.result c.if-not-tables_in_order.true c.tables_in_order.ensures);
   after = refl;
   order = λ o. o;
   spans = records-same free (λ x. x.meta) (λ x. x.metrics) (Created c.args.buffer.now) _ _;
@@ -17,12 +17,12 @@ returns-then-not-in_order g c = record {
 }
 
 pub flush_bytes-requires : goal.flush_bytes-requires
-flush_bytes-requires g c = record { order = c.in_order.ensures.0 c.if-not-in_order.false }
+flush_bytes-requires g c = record { order = c.tables_in_order.ensures.0 c.if-not-tables_in_order.false }
 
 pub returns : goal.returns
 returns g c =
     let f = c.flush_bytes.ensures.flushes in
-    let o = c.in_order.ensures.0 c.if-not-in_order.false in
+    let o = c.tables_in_order.ensures.0 c.if-not-tables_in_order.false in
     record {
       call = record { untouched = λ n. absurd (n o); shows = f.shows };
       after = c.flush_bytes.ensures.after;

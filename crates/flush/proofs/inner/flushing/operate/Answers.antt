@@ -1,6 +1,6 @@
 use Rattle.std.proofs.lemmas.Result.{err_from_is_err_and}
 use Rattle.layout.specs.Reads.{held}
-use Rattle.tables.specs.Store.{store}
+use Rattle.tables.specs.Lent.{passed}
 use Rattle.flush.proofs.Operating.{operated, unheaded}
 use Rattle.flush.proofs.inner.flushing.operate.Goals as goal
 
@@ -8,14 +8,14 @@ pub returns-in_err-head : goal.returns-in_err-head
 returns-in_err-head g c =
     let p = err_from_is_err_and c.from_residual.result c.from_residual.ensures.1 in
     rw (p.1, p.2) (record {
-      played = unheaded g.T.Text.bytes (held c.args.buffer.now) (store c.args.spans.now c.args.span_meta.now c.args.span_metrics.now c.args.segments.now c.args.segment_meta.now c.args.segment_metrics.now c.args.strings.now c.args.defaults.now c.args.settings.now (g.S.Index.content c.args.by_id.now).held (g.S.Index.content c.args.by_id.now).room (g.G.Index.content c.args.by_segment.now).held (g.G.Index.content c.args.by_segment.now).room) c.args.index.now c.from_buf.new.index c.in_err-head.field-0.0 c.requires.order c.in_err-head.ensures.cases;
+      played = unheaded g.T.Text.bytes (held c.args.buffer.now) (passed c.args.tables.now c.args.segments.now c.args.settings.now (g.S.Index.content c.args.by_id.now) (g.G.Index.content c.args.by_segment.now)) c.args.index.now c.from_buf.new.index c.in_err-head.field-0.0 c.requires.order c.in_err-head.ensures.cases;
       cached = c.requires.cached;
     })
 
 pub returns : goal.returns
 returns g c = record {
   played =
-      operated g.T.Text.bytes (held c.args.buffer.now) (store c.args.spans.now c.args.span_meta.now c.args.span_metrics.now c.args.segments.now c.args.segment_meta.now c.args.segment_metrics.now c.args.strings.now c.args.defaults.now c.args.settings.now (g.S.Index.content c.args.by_id.now).held (g.S.Index.content c.args.by_id.now).room (g.G.Index.content c.args.by_segment.now).held (g.G.Index.content c.args.by_segment.now).room) c.args.index.now c.from_buf.new.index c.in_ok-head.head c.operation_of-operation.result _ _ _ c.in_ok-head.ensures.cases c.operation_of-operation.ensures
+      operated g.T.Text.bytes (held c.args.buffer.now) (passed c.args.tables.now c.args.segments.now c.args.settings.now (g.S.Index.content c.args.by_id.now) (g.G.Index.content c.args.by_segment.now)) c.args.index.now c.from_buf.new.index c.in_ok-head.head c.operation_of-operation.result _ _ _ c.in_ok-head.ensures.cases c.operation_of-operation.ensures
       c.perform.ensures.played;
   cached = c.perform.ensures.cached;
 }

@@ -6,4 +6,5 @@ use Rattle.flush.proofs.inner.found.segment_of.Goals as goal
 
 pub returns : goal.returns
 returns g c x e =
-    ap (λ z. z.segment) (same_some (slice_get c.args.spans.now c.args.number) _ x (slice_get-get_or c.args.spans.now c.args.number c.index-spans-number.result c.requires) e)
+    let xs = c.args.tables.now.spans.now in
+    ap (λ z. z.segment) (same_some (slice_get xs c.args.found.number) _ x (slice_get-get_or xs c.args.found.number c.index-tables-found.result c.requires) e)
