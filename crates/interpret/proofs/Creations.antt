@@ -17,8 +17,7 @@ use Rattle.operations.specs.Made.{Gives}
 use Rattle.operations.proofs.Writing.{by_field}
 use Rattle.interpret.specs.declared.creation.Extra.{Extra}
 use Rattle.interpret.specs.declared.creation.Extra.TheVariants.{Bare, Named, Full}
-use Rattle.interpret.specs.declared.creation.MadeFields.{MadeFields}
-use Rattle.interpret.specs.Creation.{read_create, fields_written, BlankBut, RestBlank}
+use Rattle.interpret.specs.Creation.{read_create, made_writings, RestBlank}
 use Rattle.interpret.proofs.Reading.{number_reads, number-misses}
 
 module _ (buffer : List ℕ) (P : Book → Type 0) where
@@ -121,12 +120,12 @@ module _ {T : Type 0} (bytes : T → Text) (k : Making T) where
   abbrev both_ids : List Writing → List Writing
   both_ids ws = trace ≔ word (k.trace.low + 2 ^ 64 * k.trace.high) ∷ parent ≔ word k.parent ∷ ws
 
-  pub gives : (extra : Extra) → RestBlank bytes extra k → Gives bytes k (both_ids (fields_written bytes extra k.service k.name k.resource k.kind k.start))
+  pub gives : (extra : Extra) → RestBlank bytes extra k → Gives bytes k (both_ids (made_writings bytes extra k))
   gives Bare b = record { no_texts = refl; no_numbers = refl; fields = by_field _ refl refl (ap text b.0) (ap text b.1) (ap text b.2) (ap text b.3) (ap int b.4) refl refl refl refl refl refl }
   gives Named b = record { no_texts = refl; no_numbers = refl; fields = by_field _ refl refl (ap text b.0) refl (ap text b.1) (ap text b.2) refl refl refl refl refl refl refl }
   gives Full b = record { no_texts = refl; no_numbers = refl; fields = by_field _ refl refl refl refl refl refl refl refl refl refl refl refl refl }
 
 -- nothing is left blank
-pub full-blank : {T : Type 0} (bytes : T → Text) (r : Result (MadeFields T) ChangeBufferError) → IfOk r (λ f. BlankBut bytes Full f)
+pub full-blank : {T : Type 0} (bytes : T → Text) (r : Result (Making T) ChangeBufferError) → IfOk r (λ k. RestBlank bytes Full k)
 full-blank bytes (Ok f) = tt
 full-blank bytes (Err e) = tt

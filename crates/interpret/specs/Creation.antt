@@ -6,7 +6,6 @@ use Rattle.book.specs.Flush.{Operand, S, I, read_fields}
 use Rattle.operations.specs.declared.values.Making.{Making}
 use Rattle.interpret.specs.declared.creation.Extra.{Extra}
 use Rattle.interpret.specs.declared.creation.Extra.TheVariants.{Bare, Named, Full}
-use Rattle.interpret.specs.declared.creation.MadeFields.{MadeFields}
 use Rattle.interpret.specs.declared.creation.Creation.{Creation}
 
 -- the fields in the order of their operands
@@ -26,17 +25,14 @@ module _ {T : Type 0} (bytes : T → Text) where
   fields_written Named s n r k i = name ≔ text (bytes n) ∷ start ≔ int i ∷ []
   fields_written Full s n r k i = name ≔ text (bytes n) ∷ service ≔ text (bytes s) ∷ resource ≔ text (bytes r) ∷ type ≔ text (bytes k) ∷ start ≔ int i ∷ []
 
-  abbrev pub made_writings : Extra → MadeFields T → List Writing
-  made_writings extra f = fields_written extra f.service f.name f.resource f.kind f.start
+  abbrev pub made_writings : Extra → Making T → List Writing
+  made_writings extra k = fields_written extra k.service k.name k.resource k.kind k.start
 
   -- what has no operand is empty, or 0
   abbrev pub Blank : Extra → (service name resource kind : T) → (start : ℤ) → Type 0
   Blank Bare s n r k i = (bytes s ≡ []) × (bytes n ≡ []) × (bytes r ≡ []) × (bytes k ≡ []) × (i ≡ pos 0)
   Blank Named s n r k i = (bytes s ≡ []) × (bytes r ≡ []) × (bytes k ≡ [])
   Blank Full s n r k i = Unit {0}
-
-  abbrev pub BlankBut : Extra → MadeFields T → Type 0
-  BlankBut extra f = Blank extra f.service f.name f.resource f.kind f.start
 
   abbrev pub RestBlank : Extra → Making T → Type 0
   RestBlank extra k = Blank extra k.service k.name k.resource k.kind k.start
@@ -46,5 +42,5 @@ module _ {T : Type 0} (bytes : T → Text) where
   creation_of extra c = (
     c.segment,
     trace ≔ word (c.making.trace.low + 2 ^ 64 * c.making.trace.high) ∷ parent ≔ word c.making.parent
-        ∷ fields_written extra c.making.service c.making.name c.making.resource c.making.kind c.making.start,
+        ∷ made_writings extra c.making,
   )

@@ -2,7 +2,7 @@
 ghost use Rattle.std.specs.Prelude.{◌≡◌, ℕ, IfOk};
 ghost use Rattle.layout.specs.Reads.{held};
 ghost use Rattle.book.specs.Flush.{read_fields};
-ghost use Rattle.interpret.specs.Creation.{fields_of, made_writings, BlankBut, read_create, creation_of, RestBlank};
+ghost use Rattle.interpret.specs.Creation.{fields_of, made_writings, read_create, creation_of, RestBlank};
 ghost use Rattle.interpret.specs.Played.{ReadsAs};
 
 use layout::buffer::ChangeBuffer;
@@ -13,22 +13,13 @@ use tables::tables::Tables;
 use texts::Text;
 
 // The fields that a create has operands for, beside trace, segment and parent.
-#[derive(Clone, Copy)]
+#[derive(Clone, Copy, PartialEq, Eq, Debug)]
 pub enum Extra {
     Bare,
     // Name and start.
     Named,
     // Name, service, resource, type and start.
     Full,
-}
-
-#[derive(Drop)]
-pub struct MadeFields<T> {
-    pub service: T,
-    pub name: T,
-    pub resource: T,
-    pub kind: T,
-    pub start: i64,
 }
 
 // A span to be made, and the id of its segment.
@@ -38,10 +29,13 @@ pub struct Creation<T> {
     pub making: Making<T>,
 }
 
-fn bare<T: Text>() -> MadeFields<T>
-    ensures blank { BlankBut T.bytes Extra.Bare result }
+// A span of which no operand is read yet: no text has a byte, and every number is 0.
+fn bare<T: Text>() -> Making<T>
+    ensures blank { RestBlank T.bytes Extra.Bare result }
 {
-    MadeFields {
+    Making {
+        trace: TraceId { low: 0, high: 0 },
+        parent: 0,
         service: T::empty(),
         name: T::empty(),
         resource: T::empty(),
@@ -54,18 +48,16 @@ fn read_named<T: Text>(
     buffer: &ChangeBuffer,
     index: &mut usize,
     strings: &[Option<T>],
-) -> Result<MadeFields<T>>
+) -> Result<Making<T>>
     ensures reads { ReadsAs T.bytes (read_fields (fields_of Extra.Named)) strings.now (held buffer.now) index.old index.new (made_writings T.bytes Extra.Named) result }
-    ensures blank { IfOk result (λ f. BlankBut T.bytes Extra.Named f) }
+    ensures blank { IfOk result (λ k. RestBlank T.bytes Extra.Named k) }
 {
     let name = buffer.read_string(strings, index)?;
     let start: i64 = buffer.read(index)?;
-    Ok(MadeFields {
-        service: T::empty(),
+    Ok(Making {
         name,
-        resource: T::empty(),
-        kind: T::empty(),
         start,
+        ..bare()
     })
 }
 
@@ -73,7 +65,7 @@ fn read_full<T: Text>(
     buffer: &ChangeBuffer,
     index: &mut usize,
     strings: &[Option<T>],
-) -> Result<MadeFields<T>>
+) -> Result<Making<T>>
     ensures reads { ReadsAs T.bytes (read_fields (fields_of Extra.Full)) strings.now (held buffer.now) index.old index.new (made_writings T.bytes Extra.Full) result }
 {
     let name = buffer.read_string(strings, index)?;
@@ -81,12 +73,13 @@ fn read_full<T: Text>(
     let resource = buffer.read_string(strings, index)?;
     let kind = buffer.read_string(strings, index)?;
     let start: i64 = buffer.read(index)?;
-    Ok(MadeFields {
+    Ok(Making {
         service,
         name,
         resource,
         kind,
         start,
+        ..bare()
     })
 }
 
@@ -95,9 +88,9 @@ fn read_made_fields<T: Text>(
     index: &mut usize,
     strings: &[Option<T>],
     extra: Extra,
-) -> Result<MadeFields<T>>
+) -> Result<Making<T>>
     ensures reads { ReadsAs T.bytes (read_fields (fields_of extra)) strings.now (held buffer.now) index.old index.new (made_writings T.bytes extra) result }
-    ensures blank { IfOk result (λ f. BlankBut T.bytes extra f) }
+    ensures blank { IfOk result (λ k. RestBlank T.bytes extra k) }
 {
     match extra {
         Extra::Bare => Ok(bare()),
@@ -118,21 +111,11 @@ pub fn read_creation<T: Text>(
     let trace: TraceId = buffer.read(index)?;
     let segment: u64 = buffer.read(index)?;
     let parent: u64 = buffer.read(index)?;
-    let MadeFields {
-        service,
-        name,
-        resource,
-        kind,
-        start,
-    } = read_made_fields(buffer, index, tables.strings, extra)?;
+    let fields = read_made_fields(buffer, index, tables.strings, extra)?;
     let making = Making {
         trace,
         parent,
-        service,
-        name,
-        resource,
-        kind,
-        start,
+        ..fields
     };
     Ok(Creation { segment, making })
 }

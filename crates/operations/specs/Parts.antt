@@ -36,6 +36,10 @@ module _ {T : Type 0} where
   abbrev pub with_tables : Tables T → Store T → Store T
   with_tables t m = store t.spans.now t.span_meta.now t.span_metrics.now m.segments t.segment_meta.now t.segment_metrics.now t.strings.now t.defaults.now m.settings m.ids m.ids_room m.seats m.seats_room
 
+  -- and the segment records with their index
+  abbrev pub with_seated : Tables T → List (Segment T) → List Entry → Store T → Store T
+  with_seated t ys es m = with_seats es (with_segments ys (with_tables t m))
+
   -- the lent tables with other text pairs of spans
   abbrev pub with_texts : MutBor (List (T × T)) → Tables T → Tables T
   with_texts ms t = record { spans = t.spans; span_meta = ms; span_metrics = t.span_metrics; segment_meta = t.segment_meta; segment_metrics = t.segment_metrics; strings = t.strings; defaults = t.defaults }

@@ -2,7 +2,7 @@
 ghost use Rattle.std.specs.Prelude.{ℕ};
 ghost use Rattle.layout.specs.Reads.{held};
 ghost use Rattle.operations.specs.Done.{SegmentRows};
-ghost use Rattle.operations.specs.Parts.{with_segments, with_seats, with_tables};
+ghost use Rattle.operations.specs.Parts.{with_seated};
 ghost use Rattle.interpret.specs.Played.{note_attribute, OnAny};
 ghost use Rattle.flush.specs.Operation.{segment_attribute};
 
@@ -25,7 +25,7 @@ pub fn on_segment<T: Text, G: Index>(
     operation: OnSegment,
 ) -> Result<()>
     requires rows { SegmentRows tables.old segments.old (G.content by_segment.now).held }
-    ensures played { OnAny T.bytes (note_attribute (segment_attribute operation) segment) (held buffer.now) (λ m. with_seats (G.content by_segment.now).held (with_segments segments.old (with_tables tables.old m))) (λ m. with_seats (G.content by_segment.now).held (with_segments segments.new (with_tables tables.new m))) index.old index.new result }
+    ensures played { OnAny T.bytes (note_attribute (segment_attribute operation) segment) (held buffer.now) (with_seated tables.old segments.old (G.content by_segment.now).held) (with_seated tables.new segments.new (G.content by_segment.now).held) index.old index.new result }
 {
     match operation {
         OnSegment::Pair(kind) => set_trace_pair(

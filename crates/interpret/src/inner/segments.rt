@@ -2,7 +2,7 @@
 ghost use Rattle.std.specs.Prelude.{◌≡◌, ℕ};
 ghost use Rattle.layout.specs.Reads.{held};
 ghost use Rattle.operations.specs.Done.{HeldWithin, SegmentRows};
-ghost use Rattle.operations.specs.Parts.{with_segments, with_seats, with_tables};
+ghost use Rattle.operations.specs.Parts.{with_seated};
 ghost use Rattle.interpret.specs.Attributes.{origin_attribute, pair_attribute};
 ghost use Rattle.interpret.specs.Played.{note_attribute, OnAny};
 
@@ -26,7 +26,7 @@ pub fn set_trace_pair<T: Text, G: Index>(
     kind: PairKind,
 ) -> Result<()>
     requires rows { SegmentRows tables.old segments.old (G.content by_segment.now).held }
-    ensures played { OnAny T.bytes (note_attribute (pair_attribute kind) segment) (held buffer.now) (λ m. with_seats (G.content by_segment.now).held (with_segments segments.old (with_tables tables.old m))) (λ m. with_seats (G.content by_segment.now).held (with_segments segments.new (with_tables tables.new m))) index.old index.new result }
+    ensures played { OnAny T.bytes (note_attribute (pair_attribute kind) segment) (held buffer.now) (with_seated tables.old segments.old (G.content by_segment.now).held) (with_seated tables.new segments.new (G.content by_segment.now).held) index.old index.new result }
 {
     let pair = read_pair(buffer, index, tables, kind)?;
     add_segment_pair(tables, segments, by_segment, segment, pair)
@@ -41,7 +41,7 @@ pub fn set_trace_origin<T: Text, G: Index>(
     segment: u64,
 ) -> Result<()>
     requires rows { SegmentRows tables.now segments.old (G.content by_segment.now).held }
-    ensures played { OnAny T.bytes (note_attribute origin_attribute segment) (held buffer.now) (λ m. with_seats (G.content by_segment.now).held (with_segments segments.old (with_tables tables.now m))) (λ m. with_seats (G.content by_segment.now).held (with_segments segments.new (with_tables tables.now m))) index.old index.new result }
+    ensures played { OnAny T.bytes (note_attribute origin_attribute segment) (held buffer.now) (with_seated tables.now segments.old (G.content by_segment.now).held) (with_seated tables.now segments.new (G.content by_segment.now).held) index.old index.new result }
 {
     let value = buffer.read_string(tables.strings, index)?;
     set_origin(segments, by_segment, segment, value);

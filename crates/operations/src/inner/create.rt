@@ -7,7 +7,7 @@ ghost use Rattle.tables.specs.Lent.{passed};
 ghost use Rattle.tables.specs.Store.{Store};
 ghost use Rattle.operations.specs.Done.{gone};
 ghost use Rattle.operations.specs.Parts.{with_spans, with_span_meta, with_tables, with_texts};
-ghost use Rattle.operations.specs.Made.{SameSettings, made_span, counted_in, Roomy, Puts, RecordFor, CanGrow, Makes, Enters, Creates};
+ghost use Rattle.operations.specs.Made.{SameSettings, made_span, new_segment, Roomy, Puts, RecordFor, CanGrow, Makes, Enters, Creates};
 
 use crate::inner::places::{Place, seat_for, span_for};
 use crate::values::Making;
@@ -128,17 +128,11 @@ fn make_span<T: Text, S: Index>(
     put_place(by_id, place);
 }
 
-// One creation more names the segment; yes where it is made, empty, since none stood in the record.
-fn count_one<T: Text>(segment: &mut Segment<T>, id: u64) -> bool
-    requires bound { segment.old.count < 4294967295 }
-    ensures value { result ≡ gone segment.old }
-    ensures after { segment.new ≡ counted_in id segment.old }
+// A segment that one creation names, and nothing written to it.
+fn new_segment<T: Text>(id: u64) -> Segment<T>
+    ensures { result ≡ new_segment id }
 {
-    if segment.count > 0 {
-        segment.count += 1;
-        return false;
-    }
-    *segment = Segment {
+    Segment {
         id,
         count: 1,
         meta: Head::default(),
@@ -147,11 +141,10 @@ fn count_one<T: Text>(segment: &mut Segment<T>, id: u64) -> bool
         rule: None,
         limit: None,
         agent: None,
-    };
-    true
+    }
 }
 
-// The segment in the record with this number, made if none stands there.
+// One creation more names the segment in a record; it is made if none stands there.
 fn enter_segment<T: Text, G: Index>(segments: &mut [Segment<T>], by_segment: &mut G, place: Entry)
     requires within { place.number < length segments.old }
     requires own { RecordFor gone (G.content by_segment.old).held segments.old place.id place.number }
@@ -160,7 +153,11 @@ fn enter_segment<T: Text, G: Index>(segments: &mut [Segment<T>], by_segment: &mu
     ensures enters { Enters segments.old segments.new (G.content by_segment.old).held (G.content by_segment.new).held place.id place.number }
     ensures capacity { (G.content by_segment.new).room ≡ (G.content by_segment.old).room }
 {
-    if count_one(&mut segments[place.number], place.id) {
+    let segment = &mut segments[place.number];
+    if segment.count > 0 {
+        segment.count += 1;
+    } else {
+        *segment = new_segment(place.id);
         put_place(by_segment, place);
     }
 }

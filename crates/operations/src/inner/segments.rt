@@ -3,7 +3,7 @@ ghost use Rattle.std.specs.Prelude.{◌≡◌, ℕ, ◌+◌, ◌*◌, ◌<◌, �
 ghost use Rattle.book.specs.Book.{origin, text, ◌≔◌};
 ghost use Rattle.operations.specs.Done.{OnSeat, OnSegmentIfStanding, HeldWithin, SegmentRows};
 ghost use Rattle.operations.specs.Fields.{pair_written};
-ghost use Rattle.operations.specs.Parts.{with_segments, with_seats, with_tables};
+ghost use Rattle.operations.specs.Parts.{with_segments, with_seats, with_tables, with_seated};
 
 use crate::inner::rows::insert_below;
 use crate::values::Pair;
@@ -23,7 +23,7 @@ pub fn add_segment_pair<T: Text, G: Index>(
     pair: Pair<T>,
 ) -> Result<()>
     requires rows { SegmentRows tables.old segments.old (G.content by_segment.now).held }
-    ensures done { OnSegmentIfStanding T.bytes id (pair_written T.bytes pair) (λ m. with_seats (G.content by_segment.now).held (with_segments segments.old (with_tables tables.old m))) (λ m. with_seats (G.content by_segment.now).held (with_segments segments.new (with_tables tables.new m))) result }
+    ensures done { OnSegmentIfStanding T.bytes id (pair_written T.bytes pair) (with_seated tables.old segments.old (G.content by_segment.now).held) (with_seated tables.new segments.new (G.content by_segment.now).held) result }
 {
     match by_segment.find(id) {
         Some(number) => pair_at(tables, segments, Entry { id, number }, pair),

@@ -47,9 +47,9 @@ returns-in_err-parent g c =
       blank = tt;
     })
 
-pub returns-in_err-service : goal.returns-in_err-service
-returns-in_err-service g c =
-    let p = err_from_is_err_and c.from_residual-in_err-service.result c.from_residual-in_err-service.ensures.1 in
+pub returns-in_err-fields : goal.returns-in_err-fields
+returns-in_err-fields g c =
+    let p = err_from_is_err_and c.from_residual-in_err-fields.result c.from_residual-in_err-fields.ensures.1 in
     rw (p.1, p.2) (record {
       reads = λ m.
           let buffer = held c.args.buffer.now in
@@ -57,14 +57,14 @@ returns-in_err-service g c =
           create_no_fields buffer ss (fields_of c.args.extra) c.args.index.now c.read.new.index _ (trace_reads buffer ss c.args.index.now c.read.new.index c.in_ok-trace.trace c.in_ok-trace.ensures.cases)
           c.read-2.new.index c.in_ok-segment.segment (plain_reads buffer ss 8 c.read.new.index c.read-2.new.index c.in_ok-segment.segment c.in_ok-segment.ensures.cases)
           c.read-3.new.index c.in_ok-parent.parent (plain_reads buffer ss 8 c.read-2.new.index c.read-3.new.index c.in_ok-parent.parent c.in_ok-parent.ensures.cases)
-          (refusal c.in_err-service.field-0.0) (c.in_err-service.ensures.reads m);
+          (refusal c.in_err-fields.field-0.0) (c.in_err-fields.ensures.reads m);
       blank = tt;
     })
 
 pub returns : goal.returns
 returns g c =
-    let e : to_z w64 (of_z w64 c.in_ok-service.field-0.start) ≡ c.in_ok-service.field-0.start = search rules in
-    let f = c.in_ok-service.field-0 in
+    let e : to_z w64 (of_z w64 c.in_ok-fields.fields.start) ≡ c.in_ok-fields.fields.start = search rules in
+    let f = c.in_ok-fields.fields in
     record {
       reads = λ m.
           let b = g.T.Text.bytes in
@@ -74,6 +74,6 @@ returns g c =
           (create_reads buffer ss (fields_of c.args.extra) c.args.index.now c.read.new.index _ (trace_reads buffer ss c.args.index.now c.read.new.index c.in_ok-trace.trace c.in_ok-trace.ensures.cases)
           c.read-2.new.index c.in_ok-segment.segment (plain_reads buffer ss 8 c.read.new.index c.read-2.new.index c.in_ok-segment.segment c.in_ok-segment.ensures.cases)
           c.read-3.new.index c.in_ok-parent.parent (plain_reads buffer ss 8 c.read-2.new.index c.read-3.new.index c.in_ok-parent.parent c.in_ok-parent.ensures.cases)
-          c.read_made_fields.new.index _ (c.in_ok-service.ensures.reads m));
-      blank = subst (λ (z : ℤ). Blank g.T.Text.bytes c.args.extra f.service f.name f.resource f.kind z) (sym e) c.in_ok-service.ensures.blank;
+          c.read_made_fields.new.index _ (c.in_ok-fields.ensures.reads m));
+      blank = subst (λ (z : ℤ). Blank g.T.Text.bytes c.args.extra f.service f.name f.resource f.kind z) (sym e) c.in_ok-fields.ensures.blank;
     }

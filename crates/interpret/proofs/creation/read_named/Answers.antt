@@ -48,5 +48,5 @@ returns g c = record {
       subst (λ (z : ℤ). Acts (read_fields (fields_of Named)) buffer (Shows b ss) c.args.index.now (Shows b ss) (reached c.read.new.index (name ≔ text (b c.in_ok-name.name) ∷ start ≔ int z ∷ []))) (sym e)
       (fields-more buffer (Shows b ss) name S ((start, I) ∷ []) c.args.index.now c.read_string.new.index c.read.new.index (text (b c.in_ok-name.name)) (start ≔ int c.in_ok-start.start ∷ []) (text_operand buffer (Shows b ss) c.args.index.now c.read_string.new.index (b c.in_ok-name.name) (text_reads b buffer ss c.args.index.now c.read_string.new.index c.in_ok-name.name c.in_ok-name.ensures.cases))
       (fields-more buffer (Shows b ss) start I [] c.read_string.new.index c.read.new.index c.read.new.index (int c.in_ok-start.start) [] (time_operand buffer (Shows b ss) c.read_string.new.index c.read.new.index c.in_ok-start.start c.in_ok-start.ensures.cases) (fields-none buffer (Shows b ss) c.read.new.index)));
-  blank = (c.empty.ensures, c.empty-2.ensures, c.empty-3.ensures);
+  blank = let b = c.bare.ensures.blank in (b.0, b.2, b.3);
 }

@@ -1,6 +1,6 @@
 use Rattle.std.proofs.lemmas.Result.{err_from_is_err_and}
 use Rattle.layout.specs.Reads.{held}
-use Rattle.operations.specs.Parts.{with_segments, with_seats, with_tables}
+use Rattle.operations.specs.Parts.{with_seated}
 use Rattle.interpret.specs.Attributes.{pair_attribute}
 use Rattle.interpret.proofs.Playing.{note-unread, note_done}
 use Rattle.interpret.proofs.inner.segments.set_trace_pair.Goals as goal
@@ -11,13 +11,13 @@ returns-in_err-pair g c =
     rw (p.1, p.2) (record {
       played = λ m o.
           note-unread g.T.Text.bytes (held c.args.buffer.now) _ c.args.index.now (pair_attribute c.args.kind) c.args.segment c.read_pair.new.index c.in_err-pair.field-0.0 o
-          (c.in_err-pair.ensures.reads (with_seats (g.G.Index.content c.args.by_segment.now).held (with_segments c.args.segments.now (with_tables c.args.tables.now m))));
+          (c.in_err-pair.ensures.reads (with_seated c.args.tables.now c.args.segments.now (g.G.Index.content c.args.by_segment.now).held m));
     })
 
 pub returns : goal.returns
 returns g c = record {
   played = λ m o.
       note_done g.T.Text.bytes (held c.args.buffer.now) _ c.args.index.now (pair_attribute c.args.kind) c.args.segment _ c.read_pair.new.index _ _
-      (c.in_ok-pair.ensures.reads (with_seats (g.G.Index.content c.args.by_segment.now).held (with_segments c.args.segments.now (with_tables c.args.tables.now m))))
+      (c.in_ok-pair.ensures.reads (with_seated c.args.tables.now c.args.segments.now (g.G.Index.content c.args.by_segment.now).held m))
       (c.add_segment_pair.ensures.done m o);
 }
