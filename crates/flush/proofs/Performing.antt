@@ -17,9 +17,10 @@ use Rattle.tables.specs.InOrder.{InOrder}
 use Rattle.tables.specs.Shows.{LikeSpan, Shows}
 use Rattle.recorder.specs.Answers.{refusal}
 use Rattle.operations.specs.Done.{ending, NoneMade, gone}
+use Rattle.operations.proofs.Taking.{ids-within}
 use Rattle.operations.proofs.Keeping.{records-same}
 use Rattle.operations.proofs.Spans.{span_own}
-use Rattle.operations.proofs.Creating.{ids-within, at-number}
+use Rattle.operations.proofs.Creating.{at-number}
 use Rattle.interpret.specs.Attributes.{attribute_of, pair_attribute}
 use Rattle.interpret.specs.Creation.{read_create}
 use Rattle.interpret.specs.Played.{Played, note_attribute, set_counted}

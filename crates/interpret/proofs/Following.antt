@@ -11,7 +11,7 @@ use Rattle.book.proofs.Acted.{acts-start, acts-more, acts-turned, acts-count}
 use Rattle.tables.specs.Store.{Store, free}
 use Rattle.tables.specs.InOrder.{InOrder}
 use Rattle.tables.specs.Shows.{Shows}
-use Rattle.tables.proofs.Places.{nth_within}
+use Rattle.std.proofs.lemmas.Option.{slice_get_within}
 use Rattle.recorder.specs.Answers.{refusal}
 use Rattle.operations.specs.Done.{Unused, RowMoved, RowsMoved, RecordsKept, SpansKept, SegmentsKept, gone}
 use Rattle.operations.proofs.Creating.{at-number}
@@ -53,7 +53,7 @@ module _ {A : Type 0} (unused : A → Bool) (meta metrics : A → Head) (Made Ma
     fresh = fresh_then;
     used = λ r u. a.used r (b.used r u);
     marks = λ r x x₂ e e₂.
-        let y = at-number xs₁ r (subst (λ (l : ℕ). r < l) (sym a.long) (nth_within xs r x e)) in
+        let y = at-number xs₁ r (subst (λ (l : ℕ). r < l) (sym a.long) (slice_get_within xs r x e)) in
         moved_then r (meta x) (metrics x) (meta y.0) (metrics y.0) (meta x₂) (metrics x₂) (a.marks r x y.0 e y.1) (b.marks r y.0 x₂ y.1 e₂);
   }
 

@@ -23,10 +23,11 @@ use Rattle.tables.specs.declared.settings.Settings.{Settings}
 use Rattle.tables.specs.Store.{Store, store, chained, tally, is_live, is_free, live, free, stands, live_key, standing_key, span_at, segment_at}
 use Rattle.tables.specs.InOrder.{InOrder}
 use Rattle.tables.specs.Shows.{LikeSpan, LikeSegment, Shows}
-use Rattle.tables.proofs.Places.{nth_within}
+use Rattle.std.proofs.lemmas.Option.{slice_get_within}
 use Rattle.operations.specs.declared.values.Making.{Making}
 use Rattle.operations.specs.Done.{gone, RowsMoved, HeldWithin, Done}
 use Rattle.operations.specs.Made.{RecordFor, NoRecordFor, Puts, Roomy, SameSettings, CanGrow, SeatFor, NoSeat, made_span, new_segment, one_counted, counted_in, Makes, Enters, Gives}
+use Rattle.operations.proofs.Taking.{ids-within, seats-within}
 use Rattle.operations.proofs.Keeping.{records-set}
 use Rattle.operations.proofs.Counting.{held-count, tally_as, three, some_of, none_of, all_of, fewer_of}
 use Rattle.operations.proofs.Spans.{span-order, span-shown, span_own}
@@ -38,7 +39,7 @@ use Rattle.operations.proofs.Making.{made-like, more-like, new-like, counted_own
 
 pub record_within : {A : Type 0} (unused : A → Bool) (es : List Entry) (xs : List A) (id r : ℕ) → HeldWithin es (length xs) → RecordFor unused es xs id r → r < length xs
 record_within unused es xs id r w (inl own) = w id r own
-record_within unused es xs id r w (inr idle) = nth_within xs r idle.1.found idle.1.is
+record_within unused es xs id r w (inr idle) = slice_get_within xs r idle.1.found idle.1.is
 
 -- no segment stands where the count is 0
 gone-count : {T : Type 0} (y : Segment T) → gone y ≡ true → y.count ≡ 0
@@ -97,21 +98,6 @@ module _ (id s : ℕ) (ws : List Writing) (b : Book) (rest : List ℕ) where
 isSome_cond : (t : Bool) (n : ℕ) → is_some (cond t (Some n) None) ≡ t
 isSome_cond true n = refl
 isSome_cond false n = refl
-
-module _ {T : Type 0} (m : Store T) (o : InOrder m) where
-  pub ids-within : HeldWithin m.ids (length m.spans)
-  ids-within id r own = by (slice_get m.spans r) refl
-    where
-      by : (z : Option (Span T)) → slice_get m.spans r ≡ z → r < length m.spans
-      by None e = absurd (none-some (chained live_key (slice_get m.spans r)) id (ap (chained live_key) e) (o.spans.indexed.0 id r own))
-      by (Some x) e = nth_within m.spans r x e
-
-  pub seats-within : HeldWithin m.seats (length m.segments)
-  seats-within id g own = by (slice_get m.segments g) refl
-    where
-      by : (z : Option (Segment T)) → slice_get m.segments g ≡ z → g < length m.segments
-      by None e = absurd (none-some (chained standing_key (slice_get m.segments g)) id (ap (chained standing_key) e) (o.segments.indexed.0 id g own))
-      by (Some y) e = nth_within m.segments g y e
 
 module _ {T : Type 0} (m : Store T) (o : InOrder m) (oi : Once m.ids) (os : Once m.seats) where
   live-count : length m.ids ≡ tally live m.spans

@@ -6,7 +6,8 @@ use Rattle.index.specs.declared.entry.Entry.{Entry}
 use Rattle.index.specs.Held.{at}
 use Rattle.index.proofs.Entries.{none-some, same_some}
 use Rattle.vec_map.specs.declared.head.Head.{Head}
-use Rattle.tables.proofs.Places.{nth_within, nth_set-same, nth_set-other}
+use Rattle.std.proofs.lemmas.Option.{slice_get_within}
+use Rattle.tables.proofs.Places.{nth_set-same, nth_set-other}
 use Rattle.operations.specs.Done.{Unused, RowsMoved, RecordsKept}
 use Rattle.operations.specs.Made.{Puts}
 
@@ -28,7 +29,7 @@ module _ {A : Type 0} (unused : A → Bool) (meta metrics : A → Head) (Made : 
   module _ (es' : List Entry) (r id : ℕ) (x x' : A) (is : slice_get xs r ≡ Some x) (busy : unused x' ≡ false) (p : Puts es es' id r)
       (way : (at es id ≡ Some r) ⊎ ((at es id ≡ None) × (unused x ≡ true))) (moved : RowsMoved Made es' r (meta x) (metrics x) (meta x') (metrics x')) where
     here-is : slice_get (set xs r x') r ≡ Some x'
-    here-is = nth_set-same xs r x' (nth_within xs r x is)
+    here-is = nth_set-same xs r x' (slice_get_within xs r x is)
 
     own_stays : (n : ℕ) → at es id ≡ Some n → at es' id ≡ Some n
     own_stays n e = elim way [

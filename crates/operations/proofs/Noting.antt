@@ -20,10 +20,10 @@ use Rattle.tables.specs.declared.segment.Segment.{Segment}
 use Rattle.tables.specs.Store.{Store, store, Rowed, chained, standing_key, segment_at, free}
 use Rattle.tables.specs.InOrder.{InOrder}
 use Rattle.tables.specs.Shows.{text_pair, number_pair, LikeSegment, Shows}
-use Rattle.tables.proofs.Places.{nth_within}
+use Rattle.std.proofs.lemmas.Option.{slice_get_within}
 use Rattle.operations.specs.Inserts.{one_longer, Inserts}
 use Rattle.operations.specs.Done.{RowMoved, Done, NoneMade, gone}
-use Rattle.operations.proofs.Taking.{put_same}
+use Rattle.operations.proofs.Taking.{put_same, seats-within}
 use Rattle.operations.proofs.Keeping.{records-same, records-set}
 use Rattle.operations.proofs.Segments.{seat_stands, seat_order, seat_shown, seat_own}
 use Rattle.operations.proofs.Writing.{plays-on, done_refused, set-same, row_count, row_more, row_grew, rows_within, by_field}
@@ -100,12 +100,8 @@ done_dropped bytes m id w o none = record {
 -- ---- one that stands
 
 module _ {T : Type 0} (m : Store T) (o : InOrder m) (id g : ℕ) (own : at m.seats id ≡ Some g) where
-  pub seat_within : g < length m.segments
-  seat_within = by (slice_get m.segments g) refl
-    where
-      by : (z : Option (Segment T)) → slice_get m.segments g ≡ z → g < length m.segments
-      by None e = absurd (none-some (chained standing_key (slice_get m.segments g)) id (ap (chained standing_key) e) (o.segments.indexed.0 id g own))
-      by (Some y) e = nth_within m.segments g y e
+  seat_within : g < length m.segments
+  seat_within = seats-within m o id g own
 
   module _ (y : Segment T) (is : slice_get m.segments g ≡ Some y) where
     stood : (0 < y.count) × (y.id ≡ id)

@@ -16,7 +16,8 @@ use Rattle.tables.specs.declared.segment.Segment.{Segment}
 use Rattle.tables.specs.Store.{Store, store, Rowed, chained, stands, standing_key, segment_at}
 use Rattle.tables.specs.InOrder.{SegmentLimits, InOrder}
 use Rattle.tables.specs.Shows.{segment_view, LikeSegment, Shows}
-use Rattle.tables.proofs.Places.{nth_within, nth_set-same}
+use Rattle.std.proofs.lemmas.Option.{slice_get_within}
+use Rattle.tables.proofs.Places.{nth_set-same}
 use Rattle.operations.specs.Made.{Puts}
 use Rattle.operations.proofs.Taking.{key-is, apart, kept_set, shown-put, other-held}
 use Rattle.operations.proofs.Spans.{lengths_same}
@@ -79,7 +80,7 @@ module _ {T : Type 0} (m : Store T) (o : InOrder m) (g id : ℕ) (y : Segment T)
             ∙ other-held cell cell' m.segments g y' cells_same (at m.seats q) (seat_apart q ne)
 
         here-cell : segment_at (set m.segments g y') ms' ns' g ≡ Some (cell' g y')
-        here-cell = ap (λ z. option_map (cell' g) z) (nth_set-same m.segments g y' (nth_within m.segments g y is))
+        here-cell = ap (λ z. option_map (cell' g) z) (nth_set-same m.segments g y' (slice_get_within m.segments g y is))
 
         viewed : is_some (segment_view m id) ≡ is_some (at m.seats id)
         viewed = elim way [

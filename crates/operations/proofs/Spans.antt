@@ -18,7 +18,8 @@ use Rattle.tables.specs.declared.settings.Settings.{Settings}
 use Rattle.tables.specs.Store.{Store, store, Rowed, only, chained, is_live, is_handed, handed, live_key, span_at}
 use Rattle.tables.specs.InOrder.{Within, Lengths, OthersInOrder, SpanLimits, InOrder}
 use Rattle.tables.specs.Shows.{text_pair, live_view, handed_view, LikeSpan, Shows}
-use Rattle.tables.proofs.Places.{nth_within, nth_set-same}
+use Rattle.std.proofs.lemmas.Option.{slice_get_within}
+use Rattle.tables.proofs.Places.{nth_set-same}
 use Rattle.operations.specs.Made.{Puts, SameSettings}
 use Rattle.operations.proofs.Taking.{key-is, apart, kept_set, shown-put, other-cell, other-held, tally-set, only_not, shown_aside}
 
@@ -94,7 +95,7 @@ module _ {T : Type 0} (m : Store T) (o : InOrder m) (r id : ℕ) (x : Span T) (i
             ∙ other-held cell cell' m.spans r x' cells_same (at m.ids q) (span-apart q ne)
 
         here-cell : span_at (set m.spans r x') ms' ns' r ≡ Some (cell' r x')
-        here-cell = ap (λ z. option_map (cell' r) z) (nth_set-same m.spans r x' (nth_within m.spans r x is))
+        here-cell = ap (λ z. option_map (cell' r) z) (nth_set-same m.spans r x' (slice_get_within m.spans r x is))
 
         was_cell : span_at m.spans m.span_meta m.span_metrics r ≡ Some (cell r x)
         was_cell = ap (λ z. option_map (cell r) z) is

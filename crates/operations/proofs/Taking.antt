@@ -1,5 +1,5 @@
 -- A record is taken for an id: its own, or one that is in no use.
-use Rattle.std.proofs.Common.{◌≡◌, ℕ, zero, suc, ◌+◌, Bool, false, cond, ◌⊎◌, List, [], ◌∷◌, length, set, is_some, Some, None, Option, sym, refl, ap, ◌∙◌, subst, inl, inr, arith}
+use Rattle.std.proofs.Common.{◌≡◌, ℕ, zero, suc, ◌+◌, ◌<◌, Bool, false, cond, ◌⊎◌, List, [], ◌∷◌, length, set, is_some, Some, None, Option, sym, refl, ap, ◌∙◌, subst, inl, inr, arith}
 use Rattle.std.specs.Option.{option_map}
 use Rattle.std.specs.List.{slice_get}
 use Rattle.std.proofs.lemmas.Bool.{cases_eq}
@@ -10,10 +10,12 @@ use Rattle.index.proofs.Entries.{none-some, same_some}
 use Rattle.book.specs.Maps.{Map, find, put}
 use Rattle.book.proofs.Maps.{find-put, find-put-other, length-put, length-new, distinct_put}
 use Rattle.book.proofs.Boths.{both_some, both-none, both-same, both_left, both-left-none}
-use Rattle.tables.specs.Store.{chained, key_at, only, tally}
-use Rattle.tables.specs.InOrder.{KeptIn}
+use Rattle.tables.specs.Store.{Store, chained, key_at, only, tally, live_key, standing_key}
+use Rattle.tables.specs.InOrder.{KeptIn, InOrder}
 use Rattle.tables.specs.Shows.{Shown}
-use Rattle.tables.proofs.Places.{nth_within, nth_set-same, nth_set-other}
+use Rattle.std.proofs.lemmas.Option.{slice_get_within}
+use Rattle.tables.proofs.Places.{nth_set-same, nth_set-other}
+use Rattle.operations.specs.Done.{HeldWithin}
 use Rattle.operations.specs.Made.{Puts}
 
 -- an operation that leaves the index
@@ -44,7 +46,7 @@ module _ {A : Type 0} (key : A → Option ℕ) (xs : List A) (es : List Entry) (
     key' q = key_at key (set xs r x') q
 
     key_here : key' r ≡ Some id
-    key_here = ap (chained key) (nth_set-same xs r x' (nth_within xs r x is)) ∙ named
+    key_here = ap (chained key) (nth_set-same xs r x' (slice_get_within xs r x is)) ∙ named
 
     key-there : (q : ℕ) → (q ≡ r → ⊥) → key' q ≡ key_at key xs q
     key-there q ne = ap (chained key) (nth_set-other xs r q x' ne)
@@ -78,7 +80,7 @@ module _ {A : Type 0} (key : A → Option ℕ) (xs : List A) (es : List Entry) (
     limits-set : (Limits : A → Type 0) → ((q : ℕ) (y : A) → slice_get xs q ≡ Some y → Limits y) → Limits x' → (q : ℕ) (y : A) → slice_get (set xs r x') q ≡ Some y → Limits y
     limits-set Limits old new q y e = elim (cases_eq q r) [
       | inl same ↦
-          let z : x' ≡ y = same_some (slice_get (set xs r x') r) x' y (nth_set-same xs r x' (nth_within xs r x is)) (ap (slice_get (set xs r x')) (sym same) ∙ e) in
+          let z : x' ≡ y = same_some (slice_get (set xs r x') r) x' y (nth_set-same xs r x' (slice_get_within xs r x is)) (ap (slice_get (set xs r x')) (sym same) ∙ e) in
           subst Limits z new
       | inr ne ↦ old q y (sym (nth_set-other xs r q x' ne) ∙ e)
     ]
@@ -148,3 +150,19 @@ module _ {C V : Type 0} (Like : C → V → Type 0) (view view' : ℕ → Option
     counted = many ∙ h.counted;
     once = h.once;
   }
+
+-- ---- records that are held are there
+
+pub held-within : {A : Type 0} (key : A → Option ℕ) (xs : List A) (es : List Entry) → Holds es (key_at key xs) → HeldWithin es (length xs)
+held-within {A} key xs es h id r own = by (slice_get xs r) refl
+  where
+    by : (z : Option A) → slice_get xs r ≡ z → r < length xs
+    by None e = absurd (none-some (chained key (slice_get xs r)) id (ap (chained key) e) (h.0 id r own))
+    by (Some x) e = slice_get_within xs r x e
+
+module _ {T : Type 0} (m : Store T) (o : InOrder m) where
+  pub ids-within : HeldWithin m.ids (length m.spans)
+  ids-within = held-within live_key m.spans m.ids o.spans.indexed
+
+  pub seats-within : HeldWithin m.seats (length m.segments)
+  seats-within = held-within standing_key m.segments m.seats o.segments.indexed

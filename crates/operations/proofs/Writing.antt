@@ -26,14 +26,14 @@ use Rattle.tables.specs.declared.span.Span.{Span}
 use Rattle.tables.specs.Store.{Store, store, Rowed, chained, live_key, is_live, is_free, free}
 use Rattle.tables.specs.InOrder.{Within, InOrder}
 use Rattle.tables.specs.Shows.{text_pair, number_pair, LikeSpan, Shows}
-use Rattle.tables.proofs.Places.{nth_within}
+use Rattle.std.proofs.lemmas.Option.{slice_get_within}
 use Rattle.recorder.specs.Answers.{refusal}
 use Rattle.operations.specs.declared.values.SpanField.{SpanField}
 use Rattle.operations.specs.declared.values.SpanField.TheVariants.{Service, Resource, Kind, Name, Error, Start, Duration}
 use Rattle.operations.specs.Fields.{with_field, field_written}
 use Rattle.operations.specs.Inserts.{one_longer, Inserts}
 use Rattle.operations.specs.Done.{RowMoved, ending, Done, NoneMade, gone}
-use Rattle.operations.proofs.Taking.{put_same, key-is}
+use Rattle.operations.proofs.Taking.{put_same, key-is, ids-within}
 use Rattle.operations.proofs.Keeping.{records-same, records-set}
 use Rattle.operations.proofs.Spans.{same-settings, span-order, span-shown, span_own}
 
@@ -209,11 +209,7 @@ within_of k t n e w = subst (λ z. Within z t n) e w
 module _ {T : Type 0} (m : Store T) (o : InOrder m) (id r : ℕ) (own : at m.ids id ≡ Some r) where
   -- its number is one of the table's
   pub span-within : r < length m.spans
-  span-within = by (slice_get m.spans r) refl
-    where
-      by : (z : Option (Span T)) → slice_get m.spans r ≡ z → r < length m.spans
-      by None e = absurd (none-some (chained live_key (slice_get m.spans r)) id (ap (chained live_key) e) (o.spans.indexed.0 id r own))
-      by (Some x) e = nth_within m.spans r x e
+  span-within = ids-within m o id r own
 
   -- and its rows lie in theirs
   pub text_row-within : r * 99 + 99 ≤ length m.span_meta

@@ -1,5 +1,5 @@
 -- What a create takes and leaves: a record for the span, a record for its segment, and what is made of both.
-use Rattle.std.specs.Prelude.{◌≡◌, ℕ, ◌+◌, ◌<◌, ◌≤◌, Bool, false, cond, ◌⊎◌, List, [], length, take, pos, is_some, Some, None, Result, ◌≢◌, slice_set}
+use Rattle.std.specs.Prelude.{◌≡◌, ℕ, ◌+◌, ◌<◌, ◌≤◌, Bool, false, if◌then◌else◌, ◌⊎◌, List, [], length, take, pos, is_some, Some, None, Result, ◌≢◌, slice_set}
 use Rattle.std.specs.List.{slice_get}
 use Rattle.vec_map.specs.Tables.{row, OthersStay}
 use Rattle.index.specs.declared.entry.Entry.{Entry}
@@ -34,7 +34,7 @@ NoRecordFor unused es xs id = (at es id ≡ None) × NoneUnused unused xs
 pub record Puts (old new : List Entry) (id r : ℕ) : Type 0 where
   pub here : at new id ≡ Some r
   pub there : (q : ℕ) → (q ≢ id) → at new q ≡ at old q
-  pub many : length new ≡ length old + cond (is_some (at old id)) 0 1
+  pub many : length new ≡ length old + (if is_some (at old id) then 0 else 1)
 
 -- a new id finds room
 abbrev pub Roomy : List Entry → ℕ → ℕ → Type 0
@@ -99,7 +99,7 @@ module _ {T : Type 0} where
 
   -- a segment that one creation more names
   abbrev pub counted_in : ℕ → Segment T → Segment T
-  counted_in id y = cond (stands y) (one_counted y) (new_segment id)
+  counted_in id y = if stands y then one_counted y else new_segment id
 
   -- the span's part of a create
   pub record Makes (xs xs' : List (Span T)) (ms ms' ds : List (T × T)) (s s' : Settings T) (es es' : List Entry) (id segment r : ℕ) (k : Making T) : Type 0 where

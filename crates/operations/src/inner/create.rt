@@ -62,16 +62,10 @@ fn move_hint<T: Text>(settings: &mut Settings<T>, span: &Span<T>, number: usize)
 }
 
 // The record of a new span, with so many default pairs.
-fn write_span<T: Text>(
-    span: &mut Span<T>,
-    id: u64,
-    segment: u64,
-    making: Making<T>,
-    defaults: usize,
-)
-    ensures after { span.new ≡ made_span id segment making defaults }
+fn new_span<T: Text>(id: u64, segment: u64, making: Making<T>, defaults: usize) -> Span<T>
+    ensures { result ≡ made_span id segment making defaults }
 {
-    *span = Span {
+    Span {
         mark: Mark::Live,
         id,
         segment,
@@ -89,7 +83,7 @@ fn write_span<T: Text>(
         name: making.name,
         resource: making.resource,
         kind: making.kind,
-    };
+    }
 }
 
 // A put that finds room.
@@ -124,7 +118,7 @@ fn make_span<T: Text, S: Index>(
     fill_defaults(tables, place.number, count);
     let span = &mut tables.spans[place.number];
     move_hint(settings, span, place.number);
-    write_span(span, place.id, segment, making, count);
+    *span = new_span(place.id, segment, making, count);
     put_place(by_id, place);
 }
 

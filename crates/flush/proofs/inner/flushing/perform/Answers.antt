@@ -3,7 +3,7 @@ use Rattle.std.proofs.lemmas.Result.{err_from_is_err_and}
 use Rattle.layout.specs.Reads.{held}
 use Rattle.tables.specs.Lent.{passed}
 use Rattle.operations.proofs.Writing.{span-within, text_row-within, number_row-within}
-use Rattle.operations.proofs.Creating.{ids-within, seats-within}
+use Rattle.operations.proofs.Taking.{ids-within, seats-within}
 use Rattle.index.specs.Held.{at}
 use Rattle.operations.specs.Done.{NoneMade}
 use Rattle.interpret.specs.Played.{Played}

@@ -5,8 +5,9 @@ use Rattle.book.specs.Flush.{make}
 use Rattle.tables.specs.Lent.{passed}
 use Rattle.tables.specs.Store.{Store, store}
 use Rattle.operations.specs.Done.{Done}
+use Rattle.operations.proofs.Taking.{ids-within, seats-within}
 use Rattle.operations.proofs.Writing.{rows_within}
-use Rattle.operations.proofs.Creating.{ids-within, seats-within, record_within, ids-roomy, seats-roomy, done_no_record, done_no_seat, created}
+use Rattle.operations.proofs.Creating.{record_within, ids-roomy, seats-roomy, done_no_record, done_no_seat, created}
 use Rattle.operations.proofs.inner.create.create.Goals as goal
 
 -- what an option was, by what `ok_or` made of it

@@ -7,7 +7,7 @@ bounds-tables-place g c = subst (λ xs. c.args.place.number < length xs) (sym (a
 
 pub returns-clause-makes : goal.returns-clause-makes
 returns-clause-makes g c = record {
-  spans = ap (λ t. set t.spans.now c.args.place.number c.write_span.new.span) c.fill_defaults.ensures.rest ∙ ap (set c.args.tables.now.spans.now c.args.place.number) c.write_span.ensures.after;
+  spans = ap (λ t. set t.spans.now c.args.place.number c.new_span.result) c.fill_defaults.ensures.rest ∙ ap (set c.args.tables.now.spans.now c.args.place.number) c.new_span.ensures;
   pairs = c.fill_defaults.ensures.items;
   others = c.fill_defaults.ensures.others;
   settings = c.move_hint.ensures.same;
@@ -15,4 +15,4 @@ returns-clause-makes g c = record {
 }
 
 pub returns-clause-rest : goal.returns-clause-rest
-returns-clause-rest g c = λ m. ap (λ t. with_spans (set c.fill_defaults.new.tables.spans.now c.args.place.number c.write_span.new.span) (with_tables t m)) c.fill_defaults.ensures.rest
+returns-clause-rest g c = λ m. ap (λ t. with_spans (set c.fill_defaults.new.tables.spans.now c.args.place.number c.new_span.result) (with_tables t m)) c.fill_defaults.ensures.rest

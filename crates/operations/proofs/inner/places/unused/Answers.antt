@@ -3,7 +3,7 @@ use Rattle.std.specs.List.{position, position_or_len}
 use Rattle.std.proofs.lemmas.List.Sums.{fails_before_first, passes_at_first}
 use Rattle.std.proofs.lemmas.Option.{get_or_from_slice_get}
 use Rattle.std.proofs.lemmas.Bool.{cases_lt, cond-true, cond-false, lt-ltb, le-ltb, both_ways}
-use Rattle.tables.proofs.Places.{nth_within}
+use Rattle.std.proofs.lemmas.Option.{slice_get_within}
 use Rattle.operations.specs.Done.{Unused}
 use Rattle.operations.specs.Made.{NoneUnused}
 use Rattle.operations.proofs.Creating.{at-number}
@@ -18,7 +18,7 @@ first_unused unused xs = let k = position_or_len unused xs in elim (cases_lt k (
   | inr ge ↦
       subst (λ o. MatchOption o (NoneUnused unused xs) (Unused unused xs)) (sym (cond-false _ (Some k) None (le-ltb k (length xs) ge)))
       (λ r u.
-      let w = nth_within xs r u.found u.is in
+      let w = slice_get_within xs r u.found u.is in
       let f = fails_before_first unused xs r u.found (omega (arith, w, ge)) in
       both_ways (unused u.found) (ap unused (sym (get_or_from_slice_get xs r u.found u.found u.is)) ∙ f) u.idle)
 ]
