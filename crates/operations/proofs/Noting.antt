@@ -6,7 +6,6 @@ use Rattle.std.proofs.lemmas.Bool.{lt-ltb, le-ltb}
 use Rattle.vec_map.specs.declared.head.Head.{Head}
 use Rattle.vec_map.specs.Tables.{row, OthersStay}
 use Rattle.index.specs.Held.{at}
-use Rattle.index.proofs.Entries.{none-some}
 use Rattle.refusals.specs.declared.ChangeBufferError.TheVariants.{RowFull}
 use Rattle.book.specs.Limits.{segment_text_limit, segment_number_limit, most_count}
 use Rattle.book.specs.Maps.{find, put}
@@ -17,10 +16,9 @@ use Rattle.book.specs.Actions.{fault, went, stopped, ◌>>=◌, give, look, ask,
 use Rattle.book.specs.Flush.{write_found, write_segment}
 use Rattle.book.proofs.Boths.{both-left-none}
 use Rattle.tables.specs.declared.segment.Segment.{Segment}
-use Rattle.tables.specs.Store.{Store, store, Rowed, chained, standing_key, segment_at, free}
+use Rattle.tables.specs.Store.{Store, store, Rowed, chained, segment_at, free}
 use Rattle.tables.specs.InOrder.{InOrder}
 use Rattle.tables.specs.Shows.{text_pair, number_pair, LikeSegment, Shows}
-use Rattle.std.proofs.lemmas.Option.{slice_get_within}
 use Rattle.operations.specs.Inserts.{one_longer, Inserts}
 use Rattle.operations.specs.Done.{RowMoved, Done, NoneMade, gone}
 use Rattle.operations.proofs.Taking.{put_same, seats-within}

@@ -23,10 +23,9 @@ use Rattle.book.specs.Flush.{live_span, write_span}
 use Rattle.tables.specs.declared.span.Mark.{Mark}
 use Rattle.tables.specs.declared.span.Mark.TheVariants.{Free, Live, HandedOut}
 use Rattle.tables.specs.declared.span.Span.{Span}
-use Rattle.tables.specs.Store.{Store, store, Rowed, chained, live_key, is_live, is_free, free}
+use Rattle.tables.specs.Store.{Store, store, Rowed, live_key, is_live, is_free, free}
 use Rattle.tables.specs.InOrder.{Within, InOrder}
 use Rattle.tables.specs.Shows.{text_pair, number_pair, LikeSpan, Shows}
-use Rattle.std.proofs.lemmas.Option.{slice_get_within}
 use Rattle.recorder.specs.Answers.{refusal}
 use Rattle.operations.specs.declared.values.SpanField.{SpanField}
 use Rattle.operations.specs.declared.values.SpanField.TheVariants.{Service, Resource, Kind, Name, Error, Start, Duration}

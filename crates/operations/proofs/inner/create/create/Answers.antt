@@ -1,4 +1,4 @@
-use Rattle.std.proofs.Common.{◌≡◌, Option, Some, None, Result, Ok, Err, MatchOption, length, sym, ap, ◌∙◌, subst, arith}
+use Rattle.std.proofs.Common.{◌≡◌, Option, Some, None, Result, Ok, Err, MatchOption, length, sym, ap, ◌∙◌, subst}
 use Rattle.std.specs.Option.{ok_or}
 use Rattle.std.proofs.lemmas.Result.{err_from_is_err_and}
 use Rattle.book.specs.Flush.{make}
@@ -48,30 +48,29 @@ returns-in_err-seat g c =
           c.in_ok-number.number (of_ok _ _ _ _ _ c.ok_or.ensures.value _ c.span_for.ensures c.in_ok-number.was) n.0;
     })
 
-pub make_span-requires : goal.make_span-requires
-make_span-requires g c =
-    let o = c.requires.order in
-    let w = record_within _ _ c.args.tables.now.spans.now c.args.id c.in_ok-number.number (ids-within _ o) (of_ok _ _ _ _ _ c.ok_or.ensures.value _ c.span_for.ensures c.in_ok-number.was) in
-    let d = o.others.default_table in
-    let f = o.others.few_defaults in
-    record {
-      within = w;
-      place = rows_within c.in_ok-number.number (length c.args.tables.now.spans.now) 99 _ w o.span_lengths.text_rows;
-      pairs = omega (arith, d, f);
-      bound = f;
-      room = ids-roomy _ o (g.met.S.Index.once c.args.by_id.now) (g.met.G.Index.once c.args.by_segment.now) c.args.id c.in_ok-number.number (of_ok _ _ _ _ _ c.ok_or.ensures.value _ c.span_for.ensures c.in_ok-number.was);
-    }
+pub make_span-requires-clause-within : goal.make_span-requires-clause-within
+make_span-requires-clause-within g c =
+    record_within _ _ c.args.tables.now.spans.now c.args.id c.in_ok-number.number (ids-within _ c.requires.order) (of_ok _ _ _ _ _ c.ok_or.ensures.value _ c.span_for.ensures c.in_ok-number.was)
 
-pub enter_segment-requires : goal.enter_segment-requires
-enter_segment-requires g c =
-    let o = c.requires.order in
-    let s = of_ok _ _ _ _ _ c.ok_or-2.ensures.value _ c.seat_for.ensures c.in_ok-seat.was in
-    record {
-      within = record_within _ _ c.args.segments.now c.args.segment c.in_ok-seat.seat (seats-within _ o) s.0;
-      own = s.0;
-      bound = s.1;
-      room = seats-roomy _ o (g.met.S.Index.once c.args.by_id.now) (g.met.G.Index.once c.args.by_segment.now) c.args.segment c.in_ok-seat.seat s.0;
-    }
+pub make_span-requires-clause-place : goal.make_span-requires-clause-place
+make_span-requires-clause-place g c =
+    let w =
+    record_within _ _ c.args.tables.now.spans.now c.args.id c.in_ok-number.number (ids-within _ c.requires.order) (of_ok _ _ _ _ _ c.ok_or.ensures.value _ c.span_for.ensures c.in_ok-number.was) in
+    rows_within c.in_ok-number.number (length c.args.tables.now.spans.now) 99 _ w c.requires.order.span_lengths.text_rows
+
+pub make_span-requires-clause-room : goal.make_span-requires-clause-room
+make_span-requires-clause-room g c =
+    ids-roomy _ c.requires.order (g.met.S.Index.once c.args.by_id.now) (g.met.G.Index.once c.args.by_segment.now) c.args.id c.in_ok-number.number
+    (of_ok _ _ _ _ _ c.ok_or.ensures.value _ c.span_for.ensures c.in_ok-number.was)
+
+pub enter_segment-requires-clause-within : goal.enter_segment-requires-clause-within
+enter_segment-requires-clause-within g c =
+    record_within _ _ c.args.segments.now c.args.segment c.in_ok-seat.seat (seats-within _ c.requires.order) (of_ok _ _ _ _ _ c.ok_or-2.ensures.value _ c.seat_for.ensures c.in_ok-seat.was).0
+
+pub enter_segment-requires-clause-room : goal.enter_segment-requires-clause-room
+enter_segment-requires-clause-room g c =
+    seats-roomy _ c.requires.order (g.met.S.Index.once c.args.by_id.now) (g.met.G.Index.once c.args.by_segment.now) c.args.segment c.in_ok-seat.seat
+    (of_ok _ _ _ _ _ c.ok_or-2.ensures.value _ c.seat_for.ensures c.in_ok-seat.was).0
 
 pub returns : goal.returns
 returns g c = record {

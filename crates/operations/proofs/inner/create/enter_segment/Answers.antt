@@ -1,4 +1,4 @@
-use Rattle.std.proofs.Common.{get_or, not, set, sym, ap, ◌∙◌, subst, ◌<◌, ℕ, ◌≡◌, false, ltb}
+use Rattle.std.proofs.Common.{get_or, not, set, sym, ap, ◌∙◌}
 use Rattle.std.specs.List.{slice_get}
 use Rattle.std.proofs.lemmas.Option.{slice_get-get_or}
 use Rattle.std.proofs.lemmas.Bool.{lt-ltb, le-ltb}

@@ -1,4 +1,4 @@
-use Rattle.std.proofs.Common.{◌≡◌, ℕ, ◌+◌, ◌-◌, ◌*◌, ◌<◌, ◌≤◌, List, [], ◌∷◌, ◌++◌, length, take, drop, set, Some, sym, refl, ap, ◌∙◌, subst, inl, inr, arith, length-drop, length-set}
+use Rattle.std.proofs.Common.{◌≡◌, ℕ, ◌+◌, ◌-◌, ◌*◌, ◌<◌, ◌≤◌, List, [], ◌∷◌, ◌++◌, length, take, drop, set, Some, sym, refl, ap, ◌∙◌, inl, inr, arith, length-drop, length-set}
 use Rattle.std.proofs.Math.Seq.{take-set-lt}
 use Rattle.std.specs.List.{slice_get}
 use Rattle.std.proofs.lemmas.List.{length-take-le, take_more, take_more_set, take-set-le, drop-set-add, drop-set-lt}
@@ -53,8 +53,3 @@ loop-i-preserved g c =
       long = ap length put ∙ (length-set xs (k * 99 + i) d.0 ∙ v.long);
       rest = c.copy_default.ensures.rest ∙ ap (with_texts c.copy_default.new.tables.span_meta) v.rest;
     }
-
-pub returns-clause-items : goal.returns-clause-items
-returns-clause-items g c =
-    let same : c.loop-i.i ≡ c.args.count = omega arith in
-    subst (λ (n : ℕ). take n (row 99 c.args.number c.loop-i.tables.span_meta.now) ≡ take n c.args.tables.now.defaults.now) same c.loop-i.invariant.items

@@ -4,9 +4,6 @@ use Rattle.operations.specs.Made.{NoSeat, SeatFor, CanGrow}
 use Rattle.operations.proofs.Creating.{record_within, not_grown}
 use Rattle.operations.proofs.inner.places.seat_for.Goals as goal
 
-pub can_grow-requires : goal.can_grow-requires
-can_grow-requires g c = record_within _ _ c.args.segments.now c.args.id c.in_ok-seat.seat c.requires c.in_ok-seat.ensures
-
 pub returns : goal.returns
 returns g c =
     let es = (g.G.Index.content c.args.by_segment.now).held in

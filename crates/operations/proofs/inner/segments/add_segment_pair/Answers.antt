@@ -1,18 +1,7 @@
-use Rattle.std.proofs.Common.{length, sym}
+use Rattle.std.proofs.Common.{sym}
 use Rattle.operations.specs.Parts.{with_seats}
-use Rattle.operations.proofs.Writing.{rows_within}
 use Rattle.operations.proofs.Noting.{done_dropped}
 use Rattle.operations.proofs.inner.segments.add_segment_pair.Goals as goal
-
-pub pair_at-requires : goal.pair_at-requires
-pair_at-requires g c =
-    let r = c.requires.rows in
-    let h = r.within c.args.id c.in-Some.number (sym c.in-Some.ensures) in
-    record {
-      within = h;
-      text_row = rows_within c.in-Some.number (length c.args.segments.now) 32 _ h r.text_rows;
-      number_row = rows_within c.in-Some.number (length c.args.segments.now) 16 _ h r.number_rows;
-    }
 
 pub returns-in-Some : goal.returns-in-Some
 returns-in-Some g c = record {

@@ -3,9 +3,6 @@ use Rattle.operations.specs.Parts.{with_seats}
 use Rattle.operations.proofs.Noting.{done_dropped}
 use Rattle.operations.proofs.inner.segments.set_origin.Goals as goal
 
-pub origin_at-requires : goal.origin_at-requires
-origin_at-requires g c = record { within = c.requires.within c.args.id c.in-Some.number (sym c.in-Some.ensures) }
-
 pub returns-in-Some : goal.returns-in-Some
 returns-in-Some g c = record {
   done = λ m o. c.origin_at.ensures.done (with_seats (g.G.Index.content c.args.by_segment.now).held m) o (sym c.in-Some.ensures);
