@@ -1,5 +1,5 @@
 -- A create's reads against the book's.
-use Rattle.std.proofs.Common.{◌≡◌, ℕ, ◌+◌, ◌*◌, ◌^◌, List, [], ◌∷◌, ℤ, IfOk, Ok, Err, Result, sym, refl, ap, ◌∙◌, subst, w64, to_z}
+use Rattle.std.proofs.Common.{◌≡◌, ℕ, ◌+◌, ◌*◌, ◌^◌, List, [], ◌∷◌, ℤ, Ok, sym, refl, ap, ◌∙◌, subst, w64, to_z}
 use native.Mathlib.Nat.{mod-add-div}
 use Rattle.refusals.specs.declared.ChangeBufferError.{ChangeBufferError}
 use Rattle.layout.specs.declared.utils.TraceId.{TraceId}
@@ -124,8 +124,3 @@ module _ {T : Type 0} (bytes : T → Text) (k : Making T) where
   gives Bare b = record { no_texts = refl; no_numbers = refl; fields = by_field _ refl refl (ap text b.0) (ap text b.1) (ap text b.2) (ap text b.3) (ap int b.4) refl refl refl refl refl refl }
   gives Named b = record { no_texts = refl; no_numbers = refl; fields = by_field _ refl refl (ap text b.0) refl (ap text b.1) (ap text b.2) refl refl refl refl refl refl refl }
   gives Full b = record { no_texts = refl; no_numbers = refl; fields = by_field _ refl refl refl refl refl refl refl refl refl refl refl refl refl }
-
--- nothing is left blank
-pub full-blank : {T : Type 0} (bytes : T → Text) (r : Result (Making T) ChangeBufferError) → IfOk r (λ k. RestBlank bytes Full k)
-full-blank bytes (Ok f) = tt
-full-blank bytes (Err e) = tt

@@ -13,40 +13,31 @@ use Rattle.interpret.proofs.Reading.{text_reads, text_fails}
 use Rattle.interpret.proofs.Creations.{text_operand, text_operand_fails, time_operand, time_operand_fails, fields-none, fields_stop, fields-later, fields-more}
 use Rattle.interpret.proofs.creation.read_named.Goals as goal
 
-pub returns-in_err-name : goal.returns-in_err-name
-returns-in_err-name g c =
+pub returns-in_err-name-clause-reads : goal.returns-in_err-name-clause-reads
+returns-in_err-name-clause-reads g c =
     let p = err_from_is_err_and c.from_residual.result c.from_residual.ensures.1 in
-    rw (p.1, p.2) (record {
-      reads = λ m.
-          let b = g.T.Text.bytes in
-          let buffer = held c.args.buffer.now in
-          let ss = with_strings c.args.strings.now m in
-          (fields_stop buffer (Shows b ss) name S ((start, I) ∷ []) c.args.index.now c.args.index.now (refusal c.in_err-name.field-0.0) (text_operand_fails buffer (Shows b ss) c.args.index.now (refusal c.in_err-name.field-0.0) (text_fails b buffer ss c.args.index.now c.read_string.new.index c.in_err-name.field-0.0 c.in_err-name.ensures.cases)));
-      blank = tt;
-    })
+    rw (p.1, p.2) (λ m.
+    let b = g.T.Text.bytes in
+    let buffer = held c.args.buffer.now in
+    let ss = with_strings c.args.strings.now m in
+    (fields_stop buffer (Shows b ss) name S ((start, I) ∷ []) c.args.index.now c.args.index.now (refusal c.in_err-name.field-0.0) (text_operand_fails buffer (Shows b ss) c.args.index.now (refusal c.in_err-name.field-0.0) (text_fails b buffer ss c.args.index.now c.read_string.new.index c.in_err-name.field-0.0 c.in_err-name.ensures.cases))))
 
-pub returns-in_err-start : goal.returns-in_err-start
-returns-in_err-start g c =
+pub returns-in_err-start-clause-reads : goal.returns-in_err-start-clause-reads
+returns-in_err-start-clause-reads g c =
     let p = err_from_is_err_and c.from_residual-in_err-start.result c.from_residual-in_err-start.ensures.1 in
-    rw (p.1, p.2) (record {
-      reads = λ m.
-          let b = g.T.Text.bytes in
-          let buffer = held c.args.buffer.now in
-          let ss = with_strings c.args.strings.now m in
-          (fields-later buffer (Shows b ss) name S ((start, I) ∷ []) c.args.index.now c.read_string.new.index (text (b c.in_ok-name.name)) (refusal c.in_err-start.field-0.0) (text_operand buffer (Shows b ss) c.args.index.now c.read_string.new.index (b c.in_ok-name.name) (text_reads b buffer ss c.args.index.now c.read_string.new.index c.in_ok-name.name c.in_ok-name.ensures.cases))
-          (fields_stop buffer (Shows b ss) start I ([]) c.read_string.new.index c.read_string.new.index (refusal c.in_err-start.field-0.0) (time_operand_fails buffer (Shows b ss) c.read_string.new.index c.read.new.index c.in_err-start.field-0.0 c.in_err-start.ensures.cases)));
-      blank = tt;
-    })
+    rw (p.1, p.2) (λ m.
+    let b = g.T.Text.bytes in
+    let buffer = held c.args.buffer.now in
+    let ss = with_strings c.args.strings.now m in
+    (fields-later buffer (Shows b ss) name S ((start, I) ∷ []) c.args.index.now c.read_string.new.index (text (b c.in_ok-name.name)) (refusal c.in_err-start.field-0.0) (text_operand buffer (Shows b ss) c.args.index.now c.read_string.new.index (b c.in_ok-name.name) (text_reads b buffer ss c.args.index.now c.read_string.new.index c.in_ok-name.name c.in_ok-name.ensures.cases))
+    (fields_stop buffer (Shows b ss) start I ([]) c.read_string.new.index c.read_string.new.index (refusal c.in_err-start.field-0.0) (time_operand_fails buffer (Shows b ss) c.read_string.new.index c.read.new.index c.in_err-start.field-0.0 c.in_err-start.ensures.cases))))
 
-pub returns : goal.returns
-returns g c = record {
-  reads = λ m.
-      let b = g.T.Text.bytes in
-      let buffer = held c.args.buffer.now in
-      let ss = with_strings c.args.strings.now m in
-      let e : to_z w64 (of_z w64 c.in_ok-start.start) ≡ c.in_ok-start.start = search rules in
-      subst (λ (z : ℤ). Acts (read_fields (fields_of Named)) buffer (Shows b ss) c.args.index.now (Shows b ss) (reached c.read.new.index (name ≔ text (b c.in_ok-name.name) ∷ start ≔ int z ∷ []))) (sym e)
-      (fields-more buffer (Shows b ss) name S ((start, I) ∷ []) c.args.index.now c.read_string.new.index c.read.new.index (text (b c.in_ok-name.name)) (start ≔ int c.in_ok-start.start ∷ []) (text_operand buffer (Shows b ss) c.args.index.now c.read_string.new.index (b c.in_ok-name.name) (text_reads b buffer ss c.args.index.now c.read_string.new.index c.in_ok-name.name c.in_ok-name.ensures.cases))
-      (fields-more buffer (Shows b ss) start I [] c.read_string.new.index c.read.new.index c.read.new.index (int c.in_ok-start.start) [] (time_operand buffer (Shows b ss) c.read_string.new.index c.read.new.index c.in_ok-start.start c.in_ok-start.ensures.cases) (fields-none buffer (Shows b ss) c.read.new.index)));
-  blank = let b = c.bare.ensures.blank in (b.0, b.2, b.3);
-}
+pub returns-clause-reads : goal.returns-clause-reads
+returns-clause-reads g c = (λ m.
+    let b = g.T.Text.bytes in
+    let buffer = held c.args.buffer.now in
+    let ss = with_strings c.args.strings.now m in
+    let e : to_z w64 (of_z w64 c.in_ok-start.start) ≡ c.in_ok-start.start = search rules in
+    subst (λ (z : ℤ). Acts (read_fields (fields_of Named)) buffer (Shows b ss) c.args.index.now (Shows b ss) (reached c.read.new.index (name ≔ text (b c.in_ok-name.name) ∷ start ≔ int z ∷ []))) (sym e)
+    (fields-more buffer (Shows b ss) name S ((start, I) ∷ []) c.args.index.now c.read_string.new.index c.read.new.index (text (b c.in_ok-name.name)) (start ≔ int c.in_ok-start.start ∷ []) (text_operand buffer (Shows b ss) c.args.index.now c.read_string.new.index (b c.in_ok-name.name) (text_reads b buffer ss c.args.index.now c.read_string.new.index c.in_ok-name.name c.in_ok-name.ensures.cases))
+    (fields-more buffer (Shows b ss) start I [] c.read_string.new.index c.read.new.index c.read.new.index (int c.in_ok-start.start) [] (time_operand buffer (Shows b ss) c.read_string.new.index c.read.new.index c.in_ok-start.start c.in_ok-start.ensures.cases) (fields-none buffer (Shows b ss) c.read.new.index))))

@@ -1,20 +1,14 @@
-use Rattle.std.proofs.Common.{◌≡◌, ℕ, suc, ◌+◌, ◌-◌, Ok, subst, arith}
+use Rattle.std.proofs.Common.{◌≡◌, suc, ◌+◌, ◌-◌, arith}
 use Rattle.std.proofs.lemmas.Result.{err_from_is_err_and}
 use Rattle.layout.specs.Reads.{held}
-use Rattle.book.specs.Actions.{times}
 use Rattle.book.specs.Flush.{set_attribute}
 use Rattle.operations.specs.Done.{NoneMade}
-use Rattle.operations.specs.Parts.{with_tables}
 use Rattle.interpret.specs.Attributes.{pair_attribute}
-use Rattle.interpret.specs.Played.{Played}
 use Rattle.interpret.proofs.Following.{played_start, played_more, played_turned}
 use Rattle.interpret.proofs.inner.batches.set_pairs.Goals as goal
 
 pub loop-init : goal.loop-init
 loop-init g c = record { rows = c.requires.rows; played = λ m o own. played_start g.T.Text.bytes (set_attribute (pair_attribute c.args.kind) c.args.found.id) (held c.args.buffer.now) NoneMade _ c.args.index.now o }
-
-pub set_pair-requires : goal.set_pair-requires
-set_pair-requires g c = record { rows = c.loop.invariant.rows }
 
 pub returns-in_err-set_pair : goal.returns-in_err-set_pair
 returns-in_err-set_pair g c =
@@ -35,12 +29,3 @@ loop-preserved g c = record {
       played_more g.T.Text.bytes (set_attribute (pair_attribute c.args.kind) c.args.found.id) (held c.args.buffer.now) NoneMade _ c.args.index.now NoneMade (λ id e. e) _ _ c.loop.counter c.loop.index c.set_pair.new.index before
       (c.in_ok-set_pair.ensures.played m before.order own);
 }
-
-pub returns : goal.returns
-returns g c =
-    let same : c.loop.counter ≡ c.args.count = omega arith in
-    record {
-      played = λ m o own.
-          subst (λ (k : ℕ). Played g.T.Text.bytes (times k (set_attribute (pair_attribute c.args.kind) c.args.found.id)) NoneMade (held c.args.buffer.now) (with_tables c.args.tables.now m) (with_tables c.loop.tables m) c.args.index.now c.loop.index (Ok tt)) same
-          (c.loop.invariant.played m o own);
-    }

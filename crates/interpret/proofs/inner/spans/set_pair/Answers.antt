@@ -5,19 +5,13 @@ use Rattle.interpret.specs.Attributes.{pair_attribute}
 use Rattle.interpret.proofs.Playing.{attribute_unread, attribute_done}
 use Rattle.interpret.proofs.inner.spans.set_pair.Goals as goal
 
-pub returns-in_err-pair : goal.returns-in_err-pair
-returns-in_err-pair g c =
+pub returns-in_err-pair-clause-played : goal.returns-in_err-pair-clause-played
+returns-in_err-pair-clause-played g c =
     let p = err_from_is_err_and c.from_residual.result c.from_residual.ensures.1 in
-    rw (p.1, p.2) (record {
-      played = λ m o own.
-          attribute_unread g.T.Text.bytes (held c.args.buffer.now) _ c.args.index.now (pair_attribute c.args.kind) c.args.found.id c.read_pair.new.index c.in_err-pair.field-0.0 o (c.in_err-pair.ensures.reads (with_tables c.args.tables.now m));
-      rows = c.requires.rows;
-    })
+    rw (p.1, p.2) (λ m o own.
+    attribute_unread g.T.Text.bytes (held c.args.buffer.now) _ c.args.index.now (pair_attribute c.args.kind) c.args.found.id c.read_pair.new.index c.in_err-pair.field-0.0 o (c.in_err-pair.ensures.reads (with_tables c.args.tables.now m)))
 
-pub returns : goal.returns
-returns g c = record {
-  played = λ m o own.
-      attribute_done g.T.Text.bytes (held c.args.buffer.now) _ c.args.index.now (pair_attribute c.args.kind) c.args.found.id _ c.read_pair.new.index _ _ (c.in_ok-pair.ensures.reads (with_tables c.args.tables.now m))
-      (c.add_pair.ensures.done m o own);
-  rows = c.add_pair.ensures.rows;
-}
+pub returns-clause-played : goal.returns-clause-played
+returns-clause-played g c = (λ m o own.
+    attribute_done g.T.Text.bytes (held c.args.buffer.now) _ c.args.index.now (pair_attribute c.args.kind) c.args.found.id _ c.read_pair.new.index _ _ (c.in_ok-pair.ensures.reads (with_tables c.args.tables.now m))
+    (c.add_pair.ensures.done m o own))
