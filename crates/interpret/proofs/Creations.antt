@@ -8,7 +8,7 @@ use Rattle.layout.specs.Traces.{words}
 use Rattle.book.specs.Book.{Text, Field, trace, parent, Value, text, word, int, Writing, ◌≔◌, Book}
 use Rattle.book.specs.Refusals.{Refusal}
 use Rattle.book.specs.Actions.{Out, went, stopped, Act, on, ◌>>=◌, give, read}
-use Rattle.book.specs.Acts.{reached, turned_down, Acts}
+use Rattle.book.specs.Acts.{Ending, reached, turned_down, Acts}
 use Rattle.book.specs.Flush.{Operand, S, I, read_text, read_operand, read_fields, create, make, perform}
 use Rattle.book.proofs.Acted.{acts_then, acts_stop, acts-give}
 use Rattle.recorder.specs.Answers.{refusal}
@@ -21,44 +21,47 @@ use Rattle.interpret.specs.Creation.{read_create, made_writings, RestBlank}
 use Rattle.interpret.proofs.Reading.{number_reads, number-misses}
 
 module _ (buffer : List ℕ) (P : Book → Type 0) where
-  -- ---- one operand
-
-  pub text_operand : (p p₁ : ℕ) (t : Text) → Acts read_text buffer P p P (reached p₁ t) → Acts (read_operand S) buffer P p P (reached p₁ (text t))
-  unfolding read_operand
-  text_operand p p₁ t a = acts_then buffer read_text _ P P P p p₁ t _ a (acts-give buffer P p₁ _)
-
-  pub text_operand_fails : (p : ℕ) (r : Refusal) → Acts read_text buffer P p P (turned_down r) → Acts (read_operand S) buffer P p P (turned_down r)
-  unfolding read_operand
-  text_operand_fails p r a = acts_stop buffer read_text _ P P p r a
-
-  pub time_operand : (p p₁ : ℕ) (x : ℤ) → Reads (to_z w64) 8 buffer p p₁ (Ok x) → Acts (read_operand I) buffer P p P (reached p₁ (int x))
-  unfolding read_operand
-  time_operand p p₁ x h =
-      subst (λ z. Acts (read 8 >>= (λ n. give (int (to_z w64 n)))) buffer P p P (reached p₁ (int z))) (sym h.1)
-      (acts_then buffer (read 8) (λ n. give (int (to_z w64 n))) P P P p p₁ (number_at 8 buffer p) _ (number_reads buffer P 8 p p₁ h.0 h.2) (acts-give buffer P p₁ _))
-
-  pub time_operand_fails : (p p₁ : ℕ) (e : ChangeBufferError) → Misses 8 buffer p p₁ e → Acts (read_operand I) buffer P p P (turned_down (refusal e))
-  unfolding read_operand
-  time_operand_fails p p₁ e h = acts_stop buffer (read 8) _ P P p (refusal e) (number-misses buffer P 8 p p₁ e h)
-
   -- ---- fields by their operands
 
   pub fields-none : (p : ℕ) → Acts (read_fields []) buffer P p P (reached p [])
   unfolding read_fields
   fields-none p = acts-give buffer P p []
 
-  module _ (f : Field) (o : Operand) (fs : List (Field × Operand)) (p p₁ : ℕ) where
-    pub fields_stop : (r : Refusal) → Acts (read_operand o) buffer P p P (turned_down r) → Acts (read_fields ((f, o) ∷ fs)) buffer P p P (turned_down r)
-    unfolding read_fields
-    fields_stop r a = acts_stop buffer (read_operand o) _ P P p r a
+  -- with one writing more in front, unless it is refused
+  abbrev led_by : Writing → Ending (List Writing) → Ending (List Writing)
+  led_by w (reached p ws) = reached p (w ∷ ws)
+  led_by w (turned_down r) = turned_down r
 
-    pub fields-later : (v : Value) (r : Refusal) → Acts (read_operand o) buffer P p P (reached p₁ v) → Acts (read_fields fs) buffer P p₁ P (turned_down r) → Acts (read_fields ((f, o) ∷ fs)) buffer P p P (turned_down r)
+  module _ (f : Field) (fs : List (Field × Operand)) (p p₁ : ℕ) where
+    field_then : (o : Operand) (v : Value) (e : Ending (List Writing)) → Acts (read_operand o) buffer P p P (reached p₁ v) → Acts (read_fields fs) buffer P p₁ P e → Acts (read_fields ((f, o) ∷ fs)) buffer P p P (led_by (f ≔ v) e)
     unfolding read_fields
-    fields-later v r a b = acts_then buffer (read_operand o) _ P P P p p₁ v _ a (acts_stop buffer (read_fields fs) _ P P p₁ r b)
+    field_then o v (reached p₂ ws) a b = acts_then buffer (read_operand o) _ P P P p p₁ v _ a (acts_then buffer (read_fields fs) _ P P P p₁ p₂ ws _ b (acts-give buffer P p₂ _))
+    field_then o v (turned_down r) a b = acts_then buffer (read_operand o) _ P P P p p₁ v _ a (acts_stop buffer (read_fields fs) _ P P p₁ r b)
 
-    pub fields-more : (p₂ : ℕ) (v : Value) (ws : List Writing) → Acts (read_operand o) buffer P p P (reached p₁ v) → Acts (read_fields fs) buffer P p₁ P (reached p₂ ws) → Acts (read_fields ((f, o) ∷ fs)) buffer P p P (reached p₂ (f ≔ v ∷ ws))
+    field_stops : (o : Operand) (r : Refusal) → Acts (read_operand o) buffer P p P (turned_down r) → Acts (read_fields ((f, o) ∷ fs)) buffer P p P (turned_down r)
     unfolding read_fields
-    fields-more p₂ v ws a b = acts_then buffer (read_operand o) _ P P P p p₁ v _ a (acts_then buffer (read_fields fs) _ P P P p₁ p₂ ws _ b (acts-give buffer P p₂ _))
+    field_stops o r a = acts_stop buffer (read_operand o) _ P P p r a
+
+    -- a text, and then the other fields, however they end
+    pub text_then : (t : Text) (e : Ending (List Writing)) → Acts read_text buffer P p P (reached p₁ t) → Acts (read_fields fs) buffer P p₁ P e → Acts (read_fields ((f, S) ∷ fs)) buffer P p P (led_by (f ≔ text t) e)
+    unfolding read_operand
+    text_then t e a b = field_then S (text t) e (acts_then buffer read_text _ P P P p p₁ t _ a (acts-give buffer P p₁ _)) b
+
+    pub text_stops : (r : Refusal) → Acts read_text buffer P p P (turned_down r) → Acts (read_fields ((f, S) ∷ fs)) buffer P p P (turned_down r)
+    unfolding read_operand
+    text_stops r a = field_stops S r (acts_stop buffer read_text _ P P p r a)
+
+    -- a time
+    pub time_then : (x : ℤ) (e : Ending (List Writing)) → Reads (to_z w64) 8 buffer p p₁ (Ok x) → Acts (read_fields fs) buffer P p₁ P e → Acts (read_fields ((f, I) ∷ fs)) buffer P p P (led_by (f ≔ int x) e)
+    unfolding read_operand
+    time_then x e h b =
+        field_then I (int x) e
+        (subst (λ z. Acts (read 8 >>= (λ n. give (int (to_z w64 n)))) buffer P p P (reached p₁ (int z))) (sym h.1)
+        (acts_then buffer (read 8) (λ n. give (int (to_z w64 n))) P P P p p₁ (number_at 8 buffer p) _ (number_reads buffer P 8 p p₁ h.0 h.2) (acts-give buffer P p₁ _))) b
+
+    pub time_stops : (e : ChangeBufferError) → Misses 8 buffer p p₁ e → Acts (read_fields ((f, I) ∷ fs)) buffer P p P (turned_down (refusal e))
+    unfolding read_operand
+    time_stops e h = field_stops I (refusal e) (acts_stop buffer (read 8) _ P P p (refusal e) (number-misses buffer P 8 p p₁ e h))
 
   -- ---- the whole create
 

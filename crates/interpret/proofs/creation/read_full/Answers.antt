@@ -10,7 +10,7 @@ use Rattle.recorder.specs.Strings.{with_strings}
 use Rattle.interpret.specs.declared.creation.Extra.TheVariants.{Full}
 use Rattle.interpret.specs.Creation.{fields_of}
 use Rattle.interpret.proofs.Reading.{text_reads, text_fails}
-use Rattle.interpret.proofs.Creations.{text_operand, text_operand_fails, time_operand, time_operand_fails, fields-none, fields_stop, fields-later, fields-more}
+use Rattle.interpret.proofs.Creations.{fields-none, text_then, text_stops, time_then, time_stops}
 use Rattle.interpret.proofs.creation.read_full.Goals as goal
 
 pub returns-in_err-name : goal.returns-in_err-name
@@ -21,7 +21,8 @@ returns-in_err-name g c =
           let b = g.T.Text.bytes in
           let buffer = held c.args.buffer.now in
           let ss = with_strings c.args.strings.now m in
-          (fields_stop buffer (Shows b ss) name S ((service, S) ∷ (resource, S) ∷ (type, S) ∷ (start, I) ∷ []) c.args.index.now c.args.index.now (refusal c.in_err-name.field-0.0) (text_operand_fails buffer (Shows b ss) c.args.index.now (refusal c.in_err-name.field-0.0) (text_fails b buffer ss c.args.index.now c.read_string.new.index c.in_err-name.field-0.0 c.in_err-name.ensures.cases)));
+          let P = Shows b ss in
+          (text_stops buffer P name ((service, S) ∷ (resource, S) ∷ (type, S) ∷ (start, I) ∷ []) c.args.index.now c.args.index.now (refusal c.in_err-name.field-0.0) (text_fails b buffer ss c.args.index.now c.read_string.new.index c.in_err-name.field-0.0 c.in_err-name.ensures.cases));
     })
 
 pub returns-in_err-service : goal.returns-in_err-service
@@ -32,8 +33,9 @@ returns-in_err-service g c =
           let b = g.T.Text.bytes in
           let buffer = held c.args.buffer.now in
           let ss = with_strings c.args.strings.now m in
-          (fields-later buffer (Shows b ss) name S ((service, S) ∷ (resource, S) ∷ (type, S) ∷ (start, I) ∷ []) c.args.index.now c.read_string.new.index (text (b c.in_ok-name.name)) (refusal c.in_err-service.field-0.0) (text_operand buffer (Shows b ss) c.args.index.now c.read_string.new.index (b c.in_ok-name.name) (text_reads b buffer ss c.args.index.now c.read_string.new.index c.in_ok-name.name c.in_ok-name.ensures.cases))
-          (fields_stop buffer (Shows b ss) service S ((resource, S) ∷ (type, S) ∷ (start, I) ∷ []) c.read_string.new.index c.read_string.new.index (refusal c.in_err-service.field-0.0) (text_operand_fails buffer (Shows b ss) c.read_string.new.index (refusal c.in_err-service.field-0.0) (text_fails b buffer ss c.read_string.new.index c.read_string-2.new.index c.in_err-service.field-0.0 c.in_err-service.ensures.cases))));
+          let P = Shows b ss in
+          (text_then buffer P name ((service, S) ∷ (resource, S) ∷ (type, S) ∷ (start, I) ∷ []) c.args.index.now c.read_string.new.index _ _ (text_reads b buffer ss c.args.index.now c.read_string.new.index c.in_ok-name.name c.in_ok-name.ensures.cases)
+          (text_stops buffer P service ((resource, S) ∷ (type, S) ∷ (start, I) ∷ []) c.read_string.new.index c.read_string.new.index (refusal c.in_err-service.field-0.0) (text_fails b buffer ss c.read_string.new.index c.read_string-2.new.index c.in_err-service.field-0.0 c.in_err-service.ensures.cases)));
     })
 
 pub returns-in_err-resource : goal.returns-in_err-resource
@@ -44,9 +46,10 @@ returns-in_err-resource g c =
           let b = g.T.Text.bytes in
           let buffer = held c.args.buffer.now in
           let ss = with_strings c.args.strings.now m in
-          (fields-later buffer (Shows b ss) name S ((service, S) ∷ (resource, S) ∷ (type, S) ∷ (start, I) ∷ []) c.args.index.now c.read_string.new.index (text (b c.in_ok-name.name)) (refusal c.in_err-resource.field-0.0) (text_operand buffer (Shows b ss) c.args.index.now c.read_string.new.index (b c.in_ok-name.name) (text_reads b buffer ss c.args.index.now c.read_string.new.index c.in_ok-name.name c.in_ok-name.ensures.cases))
-          (fields-later buffer (Shows b ss) service S ((resource, S) ∷ (type, S) ∷ (start, I) ∷ []) c.read_string.new.index c.read_string-2.new.index (text (b c.in_ok-service.service)) (refusal c.in_err-resource.field-0.0) (text_operand buffer (Shows b ss) c.read_string.new.index c.read_string-2.new.index (b c.in_ok-service.service) (text_reads b buffer ss c.read_string.new.index c.read_string-2.new.index c.in_ok-service.service c.in_ok-service.ensures.cases))
-          (fields_stop buffer (Shows b ss) resource S ((type, S) ∷ (start, I) ∷ []) c.read_string-2.new.index c.read_string-2.new.index (refusal c.in_err-resource.field-0.0) (text_operand_fails buffer (Shows b ss) c.read_string-2.new.index (refusal c.in_err-resource.field-0.0) (text_fails b buffer ss c.read_string-2.new.index c.read_string-3.new.index c.in_err-resource.field-0.0 c.in_err-resource.ensures.cases)))));
+          let P = Shows b ss in
+          (text_then buffer P name ((service, S) ∷ (resource, S) ∷ (type, S) ∷ (start, I) ∷ []) c.args.index.now c.read_string.new.index _ _ (text_reads b buffer ss c.args.index.now c.read_string.new.index c.in_ok-name.name c.in_ok-name.ensures.cases)
+          (text_then buffer P service ((resource, S) ∷ (type, S) ∷ (start, I) ∷ []) c.read_string.new.index c.read_string-2.new.index _ _ (text_reads b buffer ss c.read_string.new.index c.read_string-2.new.index c.in_ok-service.service c.in_ok-service.ensures.cases)
+          (text_stops buffer P resource ((type, S) ∷ (start, I) ∷ []) c.read_string-2.new.index c.read_string-2.new.index (refusal c.in_err-resource.field-0.0) (text_fails b buffer ss c.read_string-2.new.index c.read_string-3.new.index c.in_err-resource.field-0.0 c.in_err-resource.ensures.cases))));
     })
 
 pub returns-in_err-kind : goal.returns-in_err-kind
@@ -57,10 +60,11 @@ returns-in_err-kind g c =
           let b = g.T.Text.bytes in
           let buffer = held c.args.buffer.now in
           let ss = with_strings c.args.strings.now m in
-          (fields-later buffer (Shows b ss) name S ((service, S) ∷ (resource, S) ∷ (type, S) ∷ (start, I) ∷ []) c.args.index.now c.read_string.new.index (text (b c.in_ok-name.name)) (refusal c.in_err-kind.field-0.0) (text_operand buffer (Shows b ss) c.args.index.now c.read_string.new.index (b c.in_ok-name.name) (text_reads b buffer ss c.args.index.now c.read_string.new.index c.in_ok-name.name c.in_ok-name.ensures.cases))
-          (fields-later buffer (Shows b ss) service S ((resource, S) ∷ (type, S) ∷ (start, I) ∷ []) c.read_string.new.index c.read_string-2.new.index (text (b c.in_ok-service.service)) (refusal c.in_err-kind.field-0.0) (text_operand buffer (Shows b ss) c.read_string.new.index c.read_string-2.new.index (b c.in_ok-service.service) (text_reads b buffer ss c.read_string.new.index c.read_string-2.new.index c.in_ok-service.service c.in_ok-service.ensures.cases))
-          (fields-later buffer (Shows b ss) resource S ((type, S) ∷ (start, I) ∷ []) c.read_string-2.new.index c.read_string-3.new.index (text (b c.in_ok-resource.resource)) (refusal c.in_err-kind.field-0.0) (text_operand buffer (Shows b ss) c.read_string-2.new.index c.read_string-3.new.index (b c.in_ok-resource.resource) (text_reads b buffer ss c.read_string-2.new.index c.read_string-3.new.index c.in_ok-resource.resource c.in_ok-resource.ensures.cases))
-          (fields_stop buffer (Shows b ss) type S ((start, I) ∷ []) c.read_string-3.new.index c.read_string-3.new.index (refusal c.in_err-kind.field-0.0) (text_operand_fails buffer (Shows b ss) c.read_string-3.new.index (refusal c.in_err-kind.field-0.0) (text_fails b buffer ss c.read_string-3.new.index c.read_string-4.new.index c.in_err-kind.field-0.0 c.in_err-kind.ensures.cases))))));
+          let P = Shows b ss in
+          (text_then buffer P name ((service, S) ∷ (resource, S) ∷ (type, S) ∷ (start, I) ∷ []) c.args.index.now c.read_string.new.index _ _ (text_reads b buffer ss c.args.index.now c.read_string.new.index c.in_ok-name.name c.in_ok-name.ensures.cases)
+          (text_then buffer P service ((resource, S) ∷ (type, S) ∷ (start, I) ∷ []) c.read_string.new.index c.read_string-2.new.index _ _ (text_reads b buffer ss c.read_string.new.index c.read_string-2.new.index c.in_ok-service.service c.in_ok-service.ensures.cases)
+          (text_then buffer P resource ((type, S) ∷ (start, I) ∷ []) c.read_string-2.new.index c.read_string-3.new.index _ _ (text_reads b buffer ss c.read_string-2.new.index c.read_string-3.new.index c.in_ok-resource.resource c.in_ok-resource.ensures.cases)
+          (text_stops buffer P type ((start, I) ∷ []) c.read_string-3.new.index c.read_string-3.new.index (refusal c.in_err-kind.field-0.0) (text_fails b buffer ss c.read_string-3.new.index c.read_string-4.new.index c.in_err-kind.field-0.0 c.in_err-kind.ensures.cases)))));
     })
 
 pub returns-in_err-start : goal.returns-in_err-start
@@ -71,11 +75,12 @@ returns-in_err-start g c =
           let b = g.T.Text.bytes in
           let buffer = held c.args.buffer.now in
           let ss = with_strings c.args.strings.now m in
-          (fields-later buffer (Shows b ss) name S ((service, S) ∷ (resource, S) ∷ (type, S) ∷ (start, I) ∷ []) c.args.index.now c.read_string.new.index (text (b c.in_ok-name.name)) (refusal c.in_err-start.field-0.0) (text_operand buffer (Shows b ss) c.args.index.now c.read_string.new.index (b c.in_ok-name.name) (text_reads b buffer ss c.args.index.now c.read_string.new.index c.in_ok-name.name c.in_ok-name.ensures.cases))
-          (fields-later buffer (Shows b ss) service S ((resource, S) ∷ (type, S) ∷ (start, I) ∷ []) c.read_string.new.index c.read_string-2.new.index (text (b c.in_ok-service.service)) (refusal c.in_err-start.field-0.0) (text_operand buffer (Shows b ss) c.read_string.new.index c.read_string-2.new.index (b c.in_ok-service.service) (text_reads b buffer ss c.read_string.new.index c.read_string-2.new.index c.in_ok-service.service c.in_ok-service.ensures.cases))
-          (fields-later buffer (Shows b ss) resource S ((type, S) ∷ (start, I) ∷ []) c.read_string-2.new.index c.read_string-3.new.index (text (b c.in_ok-resource.resource)) (refusal c.in_err-start.field-0.0) (text_operand buffer (Shows b ss) c.read_string-2.new.index c.read_string-3.new.index (b c.in_ok-resource.resource) (text_reads b buffer ss c.read_string-2.new.index c.read_string-3.new.index c.in_ok-resource.resource c.in_ok-resource.ensures.cases))
-          (fields-later buffer (Shows b ss) type S ((start, I) ∷ []) c.read_string-3.new.index c.read_string-4.new.index (text (b c.in_ok-kind.kind)) (refusal c.in_err-start.field-0.0) (text_operand buffer (Shows b ss) c.read_string-3.new.index c.read_string-4.new.index (b c.in_ok-kind.kind) (text_reads b buffer ss c.read_string-3.new.index c.read_string-4.new.index c.in_ok-kind.kind c.in_ok-kind.ensures.cases))
-          (fields_stop buffer (Shows b ss) start I ([]) c.read_string-4.new.index c.read_string-4.new.index (refusal c.in_err-start.field-0.0) (time_operand_fails buffer (Shows b ss) c.read_string-4.new.index c.read.new.index c.in_err-start.field-0.0 c.in_err-start.ensures.cases))))));
+          let P = Shows b ss in
+          (text_then buffer P name ((service, S) ∷ (resource, S) ∷ (type, S) ∷ (start, I) ∷ []) c.args.index.now c.read_string.new.index _ _ (text_reads b buffer ss c.args.index.now c.read_string.new.index c.in_ok-name.name c.in_ok-name.ensures.cases)
+          (text_then buffer P service ((resource, S) ∷ (type, S) ∷ (start, I) ∷ []) c.read_string.new.index c.read_string-2.new.index _ _ (text_reads b buffer ss c.read_string.new.index c.read_string-2.new.index c.in_ok-service.service c.in_ok-service.ensures.cases)
+          (text_then buffer P resource ((type, S) ∷ (start, I) ∷ []) c.read_string-2.new.index c.read_string-3.new.index _ _ (text_reads b buffer ss c.read_string-2.new.index c.read_string-3.new.index c.in_ok-resource.resource c.in_ok-resource.ensures.cases)
+          (text_then buffer P type ((start, I) ∷ []) c.read_string-3.new.index c.read_string-4.new.index _ _ (text_reads b buffer ss c.read_string-3.new.index c.read_string-4.new.index c.in_ok-kind.kind c.in_ok-kind.ensures.cases)
+          (time_stops buffer P start [] c.read_string-4.new.index c.read.new.index c.in_err-start.field-0.0 c.in_err-start.ensures.cases)))));
     })
 
 pub returns : goal.returns
@@ -84,11 +89,13 @@ returns g c = record {
       let b = g.T.Text.bytes in
       let buffer = held c.args.buffer.now in
       let ss = with_strings c.args.strings.now m in
+      let P = Shows b ss in
       let e : to_z w64 (of_z w64 c.in_ok-start.start) ≡ c.in_ok-start.start = search rules in
-      subst (λ (z : ℤ). Acts (read_fields (fields_of Full)) buffer (Shows b ss) c.args.index.now (Shows b ss) (reached c.read.new.index (name ≔ text (b c.in_ok-name.name) ∷ service ≔ text (b c.in_ok-service.service) ∷ resource ≔ text (b c.in_ok-resource.resource) ∷ type ≔ text (b c.in_ok-kind.kind) ∷ start ≔ int z ∷ []))) (sym e)
-      (fields-more buffer (Shows b ss) name S ((service, S) ∷ (resource, S) ∷ (type, S) ∷ (start, I) ∷ []) c.args.index.now c.read_string.new.index c.read.new.index (text (b c.in_ok-name.name)) (service ≔ text (b c.in_ok-service.service) ∷ resource ≔ text (b c.in_ok-resource.resource) ∷ type ≔ text (b c.in_ok-kind.kind) ∷ start ≔ int c.in_ok-start.start ∷ []) (text_operand buffer (Shows b ss) c.args.index.now c.read_string.new.index (b c.in_ok-name.name) (text_reads b buffer ss c.args.index.now c.read_string.new.index c.in_ok-name.name c.in_ok-name.ensures.cases))
-      (fields-more buffer (Shows b ss) service S ((resource, S) ∷ (type, S) ∷ (start, I) ∷ []) c.read_string.new.index c.read_string-2.new.index c.read.new.index (text (b c.in_ok-service.service)) (resource ≔ text (b c.in_ok-resource.resource) ∷ type ≔ text (b c.in_ok-kind.kind) ∷ start ≔ int c.in_ok-start.start ∷ []) (text_operand buffer (Shows b ss) c.read_string.new.index c.read_string-2.new.index (b c.in_ok-service.service) (text_reads b buffer ss c.read_string.new.index c.read_string-2.new.index c.in_ok-service.service c.in_ok-service.ensures.cases))
-      (fields-more buffer (Shows b ss) resource S ((type, S) ∷ (start, I) ∷ []) c.read_string-2.new.index c.read_string-3.new.index c.read.new.index (text (b c.in_ok-resource.resource)) (type ≔ text (b c.in_ok-kind.kind) ∷ start ≔ int c.in_ok-start.start ∷ []) (text_operand buffer (Shows b ss) c.read_string-2.new.index c.read_string-3.new.index (b c.in_ok-resource.resource) (text_reads b buffer ss c.read_string-2.new.index c.read_string-3.new.index c.in_ok-resource.resource c.in_ok-resource.ensures.cases))
-      (fields-more buffer (Shows b ss) type S ((start, I) ∷ []) c.read_string-3.new.index c.read_string-4.new.index c.read.new.index (text (b c.in_ok-kind.kind)) (start ≔ int c.in_ok-start.start ∷ []) (text_operand buffer (Shows b ss) c.read_string-3.new.index c.read_string-4.new.index (b c.in_ok-kind.kind) (text_reads b buffer ss c.read_string-3.new.index c.read_string-4.new.index c.in_ok-kind.kind c.in_ok-kind.ensures.cases))
-      (fields-more buffer (Shows b ss) start I [] c.read_string-4.new.index c.read.new.index c.read.new.index (int c.in_ok-start.start) [] (time_operand buffer (Shows b ss) c.read_string-4.new.index c.read.new.index c.in_ok-start.start c.in_ok-start.ensures.cases) (fields-none buffer (Shows b ss) c.read.new.index))))));
+      subst (λ (z : ℤ). Acts (read_fields (fields_of Full)) buffer P c.args.index.now P (reached c.read.new.index (name ≔ text (b c.in_ok-name.name) ∷ service ≔ text (b c.in_ok-service.service) ∷ resource ≔ text (b c.in_ok-resource.resource) ∷ type ≔ text (b c.in_ok-kind.kind) ∷ start ≔ int z ∷ []))) (sym e)
+      (text_then buffer P name ((service, S) ∷ (resource, S) ∷ (type, S) ∷ (start, I) ∷ []) c.args.index.now c.read_string.new.index _ _ (text_reads b buffer ss c.args.index.now c.read_string.new.index c.in_ok-name.name c.in_ok-name.ensures.cases)
+      (text_then buffer P service ((resource, S) ∷ (type, S) ∷ (start, I) ∷ []) c.read_string.new.index c.read_string-2.new.index _ _ (text_reads b buffer ss c.read_string.new.index c.read_string-2.new.index c.in_ok-service.service c.in_ok-service.ensures.cases)
+      (text_then buffer P resource ((type, S) ∷ (start, I) ∷ []) c.read_string-2.new.index c.read_string-3.new.index _ _ (text_reads b buffer ss c.read_string-2.new.index c.read_string-3.new.index c.in_ok-resource.resource c.in_ok-resource.ensures.cases)
+      (text_then buffer P type ((start, I) ∷ []) c.read_string-3.new.index c.read_string-4.new.index _ _ (text_reads b buffer ss c.read_string-3.new.index c.read_string-4.new.index c.in_ok-kind.kind c.in_ok-kind.ensures.cases)
+      (time_then buffer P start [] c.read_string-4.new.index c.read.new.index c.in_ok-start.start _ c.in_ok-start.ensures.cases
+      (fields-none buffer P c.read.new.index))))));
 }
