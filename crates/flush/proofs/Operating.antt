@@ -1,5 +1,5 @@
 -- One operation with its head, and a whole buffer of them.
-use Rattle.std.proofs.Common.{◌≡◌, ℕ, ◌+◌, ◌%◌, ◌^◌, ◌≤◌, min, true, List, ◌++◌, length, drop, replicate, IfOk, Some, None, Ok, Err, Option, Result, sym, refl, ap, ◌∙◌, subst, inl, inr, zero-le, arith}
+use Rattle.std.proofs.Common.{◌≡◌, ℕ, ◌+◌, ◌%◌, ◌^◌, ◌≤◌, true, List, length, Some, None, Ok, Err, Option, Result, sym, refl, ap, ◌∙◌, subst, inl, inr, zero-le, arith}
 use Rattle.std.proofs.lemmas.Bool.{false≢true}
 use Rattle.index.specs.declared.entry.Entry.{Entry}
 use Rattle.index.specs.Held.{at}
@@ -134,10 +134,6 @@ module _ {T : Type 0} (bytes : T → Text) (buffer : List ℕ) (m : Store T) (p 
     segments_kept = d.segments_kept;
   }
 
-pub made_always : {X Y P : Type 0} (r : Result X Y) → P → IfOk r (λ _. P)
-made_always (Ok x) p = p
-made_always (Err e) p = tt
-
 -- ---- a whole flush
 
 module _ {T : Type 0} (bytes : T → Text) (buffer : List ℕ) (m m' : Store T) (p' : ℕ) where
@@ -154,7 +150,3 @@ module _ {T : Type 0} (bytes : T → Text) (buffer : List ℕ) (m m' : Store T) 
     spans_kept = d.spans_kept;
     segments_kept = d.segments_kept;
   }
-
--- a count of eight bytes that are there
-pub eight_zeros : (buffer : List ℕ) → 0 + 8 ≤ length buffer → replicate (min 8 (length buffer)) 0 ++ drop 8 buffer ≡ replicate 8 0 ++ drop 8 buffer
-eight_zeros buffer le = ap (λ (n : ℕ). replicate n 0 ++ drop 8 buffer) (let e : min 8 (length buffer) ≡ 8 = omega arith in e)

@@ -1,20 +1,14 @@
 use Rattle.std.proofs.lemmas.Result.{err_from_is_err_and}
 use Rattle.layout.specs.Reads.{held}
 use Rattle.tables.specs.Lent.{passed}
-use Rattle.flush.proofs.Operating.{uncounted, counted, made_always}
+use Rattle.flush.proofs.Operating.{uncounted, counted}
 use Rattle.flush.proofs.inner.flushing.flush.Goals as goal
 
-pub returns-in_err-count : goal.returns-in_err-count
-returns-in_err-count g c =
+pub returns-in_err-count-clause-played : goal.returns-in_err-count-clause-played
+returns-in_err-count-clause-played g c =
     let p = err_from_is_err_and c.from_residual.result c.from_residual.ensures.1 in
-    rw (p.1, p.2) (record {
-      played = uncounted g.T.Text.bytes (held c.args.buffer.now) (passed c.args.tables.now c.args.segments.now c.args.settings.now (g.S.Index.content c.args.by_id.now) (g.G.Index.content c.args.by_segment.now)) c.args.index.now c.read.new.index c.in_err-count.field-0.0 c.requires.order c.in_err-count.ensures.cases;
-      bound = tt;
-    })
+    rw (p.1, p.2) (uncounted g.T.Text.bytes (held c.args.buffer.now) (passed c.args.tables.now c.args.segments.now c.args.settings.now (g.S.Index.content c.args.by_id.now) (g.G.Index.content c.args.by_segment.now)) c.args.index.now c.read.new.index c.in_err-count.field-0.0 c.requires.order c.in_err-count.ensures.cases)
 
-pub returns : goal.returns
-returns g c = record {
-  played =
-      counted g.T.Text.bytes (held c.args.buffer.now) (passed c.args.tables.now c.args.segments.now c.args.settings.now (g.S.Index.content c.args.by_id.now) (g.G.Index.content c.args.by_segment.now)) c.args.index.now c.read.new.index c.in_ok-count.count _ _ _ c.in_ok-count.ensures.cases c.operate_times.ensures.played;
-  bound = made_always c.operate_times.result c.in_ok-count.ensures.cases.0;
-}
+pub returns-clause-played : goal.returns-clause-played
+returns-clause-played g c =
+    counted g.T.Text.bytes (held c.args.buffer.now) (passed c.args.tables.now c.args.segments.now c.args.settings.now (g.S.Index.content c.args.by_id.now) (g.G.Index.content c.args.by_segment.now)) c.args.index.now c.read.new.index c.in_ok-count.count _ _ _ c.in_ok-count.ensures.cases c.operate_times.ensures.played
