@@ -24,7 +24,7 @@ pub enum OnSegment {
     Origin,
 }
 
-#[derive(Clone, Copy)]
+#[derive(Clone, Copy, PartialEq, Eq, Debug)]
 pub enum Operation {
     Creates(Extra),
     Spans(OnSpan),

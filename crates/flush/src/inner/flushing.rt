@@ -27,7 +27,8 @@ use tables::settings::Settings;
 use tables::tables::Tables;
 use texts::Text;
 
-// A create looks at the tables after its last operand; every other operation finds its live span before the first.
+// A create looks at the tables after its last operand; every other operation finds its live span before the first. (The
+// indexes are lent each as a parameter of its own, and so is what was found in one of them.)
 fn perform<T: Text, S: Index, G: Index>(
     buffer: &ChangeBuffer,
     index: &mut usize,
