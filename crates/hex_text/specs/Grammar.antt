@@ -1,5 +1,5 @@
 -- The texts that a person may write for some bytes, and the plain one.
-use Rattle.std.specs.Prelude.{◌≡◌, ℕ, ◌+◌, ◌*◌, ◌/◌, ◌%◌, ◌<◌, false, cond, ◌⊎◌, List, [], ◌∷◌, ◌++◌, Ok, Err, vec_items, Result, Vec, nat_lt}
+use Rattle.std.specs.Prelude.{◌≡◌, ℕ, ◌+◌, ◌*◌, ◌/◌, ◌%◌, ◌<◌, false, if◌then◌else◌, ◌⊎◌, List, [], ◌∷◌, ◌++◌, Ok, Err, vec_items, Result, Vec, nat_lt}
 use Rattle.std.specs.declared.alloc.Global.{Global}
 use Rattle.hex_text.specs.declared.error.HexError.{HexError}
 use Rattle.hex_text.specs.declared.error.HexError.TheVariants.{Memory}
@@ -22,7 +22,7 @@ pub data Says : List ℕ → List ℕ → Type 0 where
 
 -- the digit of a number below 16
 abbrev pub digit : ℕ → ℕ
-digit n = cond (nat_lt n 10) (48 + n) (87 + n)
+digit n = if nat_lt n 10 then 48 + n else 87 + n
 
 -- two digits for each byte
 abbrev pub written : List ℕ → List ℕ

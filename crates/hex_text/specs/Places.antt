@@ -1,5 +1,5 @@
 -- Places in a text and faults there: the line and the column of a byte, and what is said of a fault.
-use Rattle.std.specs.Prelude.{ℕ, ◌+◌, Bool, cond, not, List, ◌∷◌, ◌++◌, take, codes, decimal, count_by, ◌==◌}
+use Rattle.std.specs.Prelude.{ℕ, ◌+◌, Bool, if◌then◌else◌, not, List, ◌∷◌, ◌++◌, take, codes, decimal, count_by, ◌==◌}
 use Rattle.std.specs.Char.{is_ascii_graphic}
 use Rattle.std.specs.List.{suffix_len}
 use Rattle.hex_text.specs.declared.position.Position.{Position}
@@ -23,7 +23,5 @@ place_words p = codes "line " ++ (decimal p.line ++ (codes ", column " ++ decima
 abbrev pub said : HexError → List ℕ
 said (Odd p) = place_words p ++ codes ": a hexadecimal digit without its pair"
 said (Unknown b p) =
-    cond (is_ascii_graphic b)
-    (place_words p ++ (codes ": '" ++ (b ∷ codes "' is no hexadecimal digit")))
-    (place_words p ++ (codes ": byte " ++ (decimal b ++ codes " is no hexadecimal digit")))
+    if is_ascii_graphic b then place_words p ++ (codes ": '" ++ (b ∷ codes "' is no hexadecimal digit")) else place_words p ++ (codes ": byte " ++ (decimal b ++ codes " is no hexadecimal digit"))
 said Memory = codes "no memory for the bytes"

@@ -1,5 +1,5 @@
 -- Hexadecimal text: the bytes that it says, or what is wrong with it and where.
-use Rattle.std.specs.Prelude.{◌≡◌, ℕ, ◌+◌, ◌-◌, ◌*◌, Bool, cond, ◌&&◌, ◌||◌, List, [], ◌∷◌, length, Ok, Err, vec_items, Result, Vec, ◌==◌, nat_le}
+use Rattle.std.specs.Prelude.{◌≡◌, ℕ, ◌+◌, ◌-◌, ◌*◌, Bool, if◌then◌else◌, ◌&&◌, ◌||◌, List, [], ◌∷◌, length, Ok, Err, vec_items, Result, Vec, ◌==◌, nat_le}
 use Rattle.std.specs.declared.alloc.Global.{Global}
 use Rattle.hex_text.specs.declared.error.HexError.{HexError}
 use Rattle.hex_text.specs.declared.error.HexError.TheVariants.{Memory, Odd, Unknown}
@@ -16,12 +16,7 @@ among low high b = nat_le low b && nat_le b high
 -- what a byte is: the newline; space, tab and carriage return; '#'; '0' to '9', 'A' to 'F' and 'a' to 'f'
 abbrev pub mark : ℕ → Mark
 mark b =
-    cond (newline b) Newline
-    (cond (b == 32 || (b == 9 || b == 13)) Blank
-    (cond (b == 35) Hash
-    (cond (among 48 57 b) (Digit (b - 48))
-    (cond (among 65 70 b) (Digit (b - 65 + 10))
-    (cond (among 97 102 b) (Digit (b - 97 + 10)) Other)))))
+    if newline b then Newline else if b == 32 || (b == 9 || b == 13) then Blank else if b == 35 then Hash else if among 48 57 b then Digit (b - 48) else if among 65 70 b then Digit (b - 65 + 10) else if among 97 102 b then Digit (b - 97 + 10) else Other
 
 -- what a text says: bytes, or a digit alone, or an unknown byte, with the number of bytes from there to the text's end
 pub data Saying : Type 0 where
@@ -48,7 +43,7 @@ reading Outside (b ∷ text) =
       | Digit high ↦ reading (First high) text
       | Other ↦ unknown b (1 + length text)
     ]
-reading Comment (b ∷ text) = cond (newline b) (reading Outside text) (reading Comment text)
+reading Comment (b ∷ text) = if newline b then reading Outside text else reading Comment text
 reading (First high) (b ∷ text) =
     elim (mark b) [
       | Blank ↦ odd (2 + length text)

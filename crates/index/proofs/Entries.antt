@@ -8,10 +8,6 @@ use Rattle.index.specs.Held.{at, Once, blank}
 use Rattle.index.proofs.Pigeons.{Mem, Apart}
 
 -- ---- options
--- std's, with the option named, as the crates above cite it
-pub none-some : {A : Type 0} (o : Option A) (x : A) → o ≡ None → o ≡ Some x → ⊥
-none-some o x n s = option.none-some x (sym n ∙ s)
-
 pub same_some : {A : Type 0} (o : Option A) (x y : A) → o ≡ Some x → o ≡ Some y → x ≡ y
 same_some o x y p q = cc
 

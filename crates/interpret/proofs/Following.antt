@@ -2,7 +2,7 @@
 use Rattle.std.proofs.Common.{◌≡◌, ℕ, suc, ◌+◌, ◌<◌, Bool, false, List, Some, None, Ok, Err, Option, sym, refl, ap, ◌∙◌, subst, inl, inr, arith}
 use Rattle.index.specs.declared.entry.Entry.{Entry}
 use Rattle.index.specs.Held.{at}
-use Rattle.index.proofs.Entries.{none-some, same_some}
+use Rattle.index.proofs.Entries.{same_some}
 use Rattle.vec_map.specs.declared.head.Head.{Head}
 use Rattle.refusals.specs.declared.ChangeBufferError.{ChangeBufferError}
 use Rattle.book.specs.Book.{Text}
@@ -11,7 +11,7 @@ use Rattle.book.proofs.Acted.{acts-start, acts-more, acts-turned, acts-count}
 use Rattle.tables.specs.Store.{Store, free}
 use Rattle.tables.specs.InOrder.{InOrder}
 use Rattle.tables.specs.Shows.{Shows}
-use Rattle.std.proofs.lemmas.Option.{slice_get_within}
+use Rattle.std.proofs.lemmas.Option.{none-some, slice_get_within}
 use Rattle.recorder.specs.Answers.{refusal}
 use Rattle.operations.specs.Done.{Unused, RowMoved, RowsMoved, RecordsKept, SpansKept, SegmentsKept, gone}
 use Rattle.operations.proofs.Creating.{at-number}
@@ -69,7 +69,7 @@ module _ {T : Type 0} (m m₁ m₂ : Store T) where
     where
       by : (o : Option ℕ) → at m.seats id ≡ o → at m.seats id ≡ None
       by None e = e
-      by (Some g) e = absurd (none-some (at m₁.seats id) g none (a.stays id g e))
+      by (Some g) e = absurd (none-some g (sym none ∙ (a.stays id g e)))
 
   segments_then : SegmentsKept m m₁ → SegmentsKept m₁ m₂ → SegmentsKept m m₂
   segments_then a b =

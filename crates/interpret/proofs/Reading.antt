@@ -2,9 +2,8 @@
 use Rattle.std.proofs.Common.{◌≡◌, ℕ, ◌+◌, ◌≤◌, List, length, get_or, Some, None, Ok, Err, Option, sym, refl, ap, ◌∙◌, subst, inl, inr}
 use lib.Ieee.{Float, binary64, of_bits}
 use Rattle.std.proofs.lemmas.List.{get_or_past}
-use Rattle.std.proofs.lemmas.Option.{slice_get-get_or, slice_get_past}
+use Rattle.std.proofs.lemmas.Option.{none-some, slice_get-get_or, slice_get_past}
 use Rattle.std.proofs.lemmas.Bool.{cases_lt}
-use Rattle.index.proofs.Entries.{none-some}
 use Rattle.refusals.specs.declared.ChangeBufferError.{ChangeBufferError}
 use Rattle.refusals.specs.declared.ChangeBufferError.TheVariants.{OutOfOrder, TooManyDefaults, KeyBeyond, NoSegment, NotHandedOut, ListShort, SpanNotFound, ReadOutOfBounds, UnknownOpcode, StringNotFound, NoRecord, NoSegmentRecord, RowFull}
 use Rattle.refusals.specs.Told as code
@@ -70,7 +69,7 @@ module _ {T : Type 0} (bytes : T → Text) where
   found_string : (strings : List (Option T)) (n : ℕ) (x : T) → get_or strings n None ≡ Some x → string_at bytes strings n ≡ Some (bytes x)
   found_string strings n x e = elim (cases_lt n (length strings)) [
     | inl lt ↦ ap (string_of bytes) (slice_get-get_or strings n None lt) ∙ ap (λ z. string_of bytes (Some z)) e
-    | inr ge ↦ absurd (none-some (get_or strings n None) x (get_or_past strings n None ge) e)
+    | inr ge ↦ absurd (none-some x (sym (get_or_past strings n None ge) ∙ e))
   ]
 
   lacking_string : (strings : List (Option T)) (n : ℕ) → get_or strings n None ≡ None → string_at bytes strings n ≡ None

@@ -1,12 +1,12 @@
 -- How many records an index holds, and how many there are of each kind.
 use Rattle.std.proofs.Common.{◌≡◌, ℕ, zero, suc, ◌+◌, ◌<◌, ◌≤◌, Bool, true, false, cond, eqb, List, [], ◌∷◌, length, is_some, Some, None, Option, sym, refl, ap, ◌∙◌, add-one, arith}
 use Rattle.std.specs.List.{slice_get}
-use Rattle.std.proofs.lemmas.Option.{slice_get_past}
+use Rattle.std.proofs.lemmas.Option.{none-some, slice_get_past}
 use Rattle.std.proofs.lemmas.Bool.{eqb-true, eq-eqb, cond-true, cond-false}
 use Rattle.index.specs.declared.entry.Entry.{Entry}
 use Rattle.index.specs.Held.{Once}
 use Rattle.index.specs.Holding.{Holds}
-use Rattle.index.proofs.Entries.{none-some, same_some}
+use Rattle.index.proofs.Entries.{same_some}
 use Rattle.index.proofs.Holding.{many, many-none, many-more-some, many-more-none, found_all}
 use Rattle.tables.specs.declared.span.Mark.{Mark}
 use Rattle.tables.specs.declared.span.Mark.TheVariants.{Free, Live, HandedOut}
@@ -70,7 +70,7 @@ three (x ∷ xs) = one_of x.mark _ _ _ ∙ ap suc (three xs)
 
 module _ {A : Type 0} (t : A → Bool) where
   pub some_of : (xs : List A) (r : ℕ) (x : A) → slice_get xs r ≡ Some x → t x ≡ true → 1 ≤ tally t xs
-  some_of [] r x e h = absurd (none-some None x refl e)
+  some_of [] r x e h = absurd (none-some x e)
   some_of (y ∷ xs) zero x e h =
       let z : t y ≡ true = ap t (same_some (Some y) y x refl e) ∙ h in
       let k : tally t (y ∷ xs) ≡ suc (tally t xs) = cond-true (t y) _ _ z in
@@ -98,7 +98,7 @@ module _ {A : Type 0} (t : A → Bool) where
       by false f k = let z : tally t (y ∷ xs) ≡ tally t xs = cond-false (t y) _ _ f in omega (arith, z, k)
 
   pub fewer_of : (xs : List A) (r : ℕ) (x : A) → slice_get xs r ≡ Some x → t x ≡ false → tally t xs < length xs
-  fewer_of [] r x e h = absurd (none-some None x refl e)
+  fewer_of [] r x e h = absurd (none-some x e)
   fewer_of (y ∷ xs) zero x e h =
       let z : t y ≡ false = ap t (same_some (Some y) y x refl e) ∙ h in
       let k : tally t (y ∷ xs) ≡ tally t xs = cond-false (t y) _ _ z in

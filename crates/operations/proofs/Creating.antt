@@ -5,7 +5,7 @@ use Rattle.std.proofs.lemmas.Bool.{false≢true, both_ways, cases_lt, cases_Bool
 use Rattle.vec_map.specs.Tables.{row, OthersStay}
 use Rattle.index.specs.declared.entry.Entry.{Entry}
 use Rattle.index.specs.Held.{at, Once}
-use Rattle.index.proofs.Entries.{none-some, same_some}
+use Rattle.index.proofs.Entries.{same_some}
 use Rattle.refusals.specs.declared.ChangeBufferError.TheVariants.{NoRecord, NoSegmentRecord}
 use Rattle.book.specs.Limits.{span_text_limit, span_number_limit, segment_text_limit, segment_number_limit, most_count}
 use Rattle.book.specs.Maps.{find, put, has}
@@ -23,7 +23,7 @@ use Rattle.tables.specs.declared.settings.Settings.{Settings}
 use Rattle.tables.specs.Store.{Store, store, chained, tally, is_live, is_free, live, free, stands, live_key, standing_key, span_at, segment_at}
 use Rattle.tables.specs.InOrder.{InOrder}
 use Rattle.tables.specs.Shows.{LikeSpan, LikeSegment, Shows}
-use Rattle.std.proofs.lemmas.Option.{slice_get_within}
+use Rattle.std.proofs.lemmas.Option.{none-some, slice_get_within}
 use Rattle.operations.specs.declared.values.Making.{Making}
 use Rattle.operations.specs.Done.{gone, RowsMoved, HeldWithin, Done}
 use Rattle.operations.specs.Made.{RecordFor, NoRecordFor, Puts, Roomy, SameSettings, CanGrow, SeatFor, NoSeat, made_span, new_segment, one_counted, counted_in, Makes, Enters, Gives}
@@ -108,7 +108,7 @@ module _ {T : Type 0} (m : Store T) (o : InOrder m) (oi : Once m.ids) (os : Once
 
   -- a put finds room
   pub ids-roomy : (id r : ℕ) → RecordFor free m.ids m.spans id r → Roomy m.ids m.ids_room id
-  ids-roomy id r (inl own) none = absurd (none-some (at m.ids id) r none own)
+  ids-roomy id r (inl own) none = absurd (none-some r (sym none ∙ own))
   ids-roomy id r (inr idle) none =
       let u = idle.1 in
       let f = fewer_of live m.spans r u.found u.is (ap is_live (free-mark u.found.mark u.idle)) in
@@ -117,7 +117,7 @@ module _ {T : Type 0} (m : Store T) (o : InOrder m) (oi : Once m.ids) (os : Once
       omega (arith, f, k, l)
 
   pub seats-roomy : (s g : ℕ) → RecordFor gone m.seats m.segments s g → Roomy m.seats m.seats_room s
-  seats-roomy s g (inl own) none = absurd (none-some (at m.seats s) g none own)
+  seats-roomy s g (inl own) none = absurd (none-some g (sym none ∙ own))
   seats-roomy s g (inr idle) none =
       let u = idle.1 in
       let f = fewer_of stands m.segments g u.found u.is (not-true (stands u.found) u.idle) in

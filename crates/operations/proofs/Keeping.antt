@@ -4,9 +4,9 @@ use Rattle.std.specs.List.{slice_get}
 use Rattle.std.proofs.lemmas.Bool.{cases_eq, both_ways}
 use Rattle.index.specs.declared.entry.Entry.{Entry}
 use Rattle.index.specs.Held.{at}
-use Rattle.index.proofs.Entries.{none-some, same_some}
+use Rattle.index.proofs.Entries.{same_some}
 use Rattle.vec_map.specs.declared.head.Head.{Head}
-use Rattle.std.proofs.lemmas.Option.{slice_get_within}
+use Rattle.std.proofs.lemmas.Option.{none-some, slice_get_within}
 use Rattle.tables.proofs.Places.{nth_set-same, nth_set-other}
 use Rattle.operations.specs.Done.{Unused, RowsMoved, RecordsKept}
 use Rattle.operations.specs.Made.{Puts}
@@ -20,7 +20,7 @@ module _ {A : Type 0} (unused : A → Bool) (meta metrics : A → Head) (Made : 
   records-same = record {
     long = refl;
     stays = λ id r e. e;
-    fresh = λ id r n e. absurd (none-some (at es id) r n e);
+    fresh = λ id r n e. absurd (none-some r (sym n ∙ e));
     used = λ r u. u;
     marks = λ r x x' e e'. same_heads es r x x' (same_some (slice_get xs r) x x' e e');
   }
@@ -34,12 +34,12 @@ module _ {A : Type 0} (unused : A → Bool) (meta metrics : A → Head) (Made : 
     own_stays : (n : ℕ) → at es id ≡ Some n → at es' id ≡ Some n
     own_stays n e = elim way [
       | inl own ↦ p.here ∙ ap Some (same_some (at es id) r n own e)
-      | inr idle ↦ absurd (none-some (at es id) n idle.0 e)
+      | inr idle ↦ absurd (none-some n (sym idle.0 ∙ e))
     ]
 
     own_fresh : (n : ℕ) → at es id ≡ None → at es' id ≡ Some n → Unused unused xs n
     own_fresh n none e = elim way [
-      | inl own ↦ absurd (none-some (at es id) r none own)
+      | inl own ↦ absurd (none-some r (sym none ∙ own))
       | inr idle ↦ subst (λ (q : ℕ). Unused unused xs q) (same_some (at es' id) r n p.here e) (record { found = x; is = is; idle = idle.1 })
     ]
 
@@ -52,7 +52,7 @@ module _ {A : Type 0} (unused : A → Bool) (meta metrics : A → Head) (Made : 
       ];
       fresh = λ q n none e. elim (cases_eq q id) [
         | inl same ↦ own_fresh n (ap (at es) (sym same) ∙ none) (ap (at es') (sym same) ∙ e)
-        | inr ne ↦ absurd (none-some (at es' q) n (p.there q ne ∙ none) e)
+        | inr ne ↦ absurd (none-some n (sym (p.there q ne ∙ none) ∙ e))
       ];
       used = λ q u. elim (cases_eq q r) [
         | inl same ↦

@@ -5,7 +5,7 @@ use Rattle.std.specs.List.{slice_get}
 use Rattle.std.proofs.lemmas.Bool.{lt-ltb, ltb-true}
 use Rattle.index.specs.declared.entry.Entry.{Entry}
 use Rattle.index.specs.Held.{at}
-use Rattle.index.proofs.Entries.{none-some, same_some}
+use Rattle.index.proofs.Entries.{same_some}
 use Rattle.vec_map.specs.Tables.{row, OthersStay}
 use Rattle.book.specs.Limits.{segment_text_limit, segment_number_limit, most_segments, most_count}
 use Rattle.book.specs.Maps.{find, put}
@@ -16,7 +16,7 @@ use Rattle.tables.specs.declared.segment.Segment.{Segment}
 use Rattle.tables.specs.Store.{Store, store, Rowed, chained, stands, standing_key, segment_at}
 use Rattle.tables.specs.InOrder.{SegmentLimits, InOrder}
 use Rattle.tables.specs.Shows.{segment_view, LikeSegment, Shows}
-use Rattle.std.proofs.lemmas.Option.{slice_get_within}
+use Rattle.std.proofs.lemmas.Option.{none-some, slice_get_within}
 use Rattle.tables.proofs.Places.{nth_set-same}
 use Rattle.operations.specs.Made.{Puts}
 use Rattle.operations.proofs.Taking.{key-is, apart, kept_set, shown-put, other-held}
@@ -28,7 +28,7 @@ standing-named y id lt e = ap (λ t. cond t (Some y.id) None) (lt-ltb 0 y.count 
 
 pub standing_of : (t : Bool) (i q : ℕ) → cond t (Some i) None ≡ Some q → (t ≡ true) × (i ≡ q)
 standing_of true i q e = (refl, same_some (Some i) i q refl e)
-standing_of false i q e = absurd (none-some None q refl e)
+standing_of false i q e = absurd (none-some q e)
 
 module _ {T : Type 0} (m : Store T) (o : InOrder m) (g id : ℕ) (y : Segment T) (is : slice_get m.segments g ≡ Some y)
     (way : (at m.seats id ≡ Some g) ⊎ ((at m.seats id ≡ None) × (y.count ≡ 0))) where

@@ -4,7 +4,6 @@ use Rattle.std.specs.Option.{option_map}
 use Rattle.std.specs.List.{slice_get}
 use Rattle.index.specs.declared.entry.Entry.{Entry}
 use Rattle.index.specs.Held.{at}
-use Rattle.index.proofs.Entries.{none-some}
 use Rattle.vec_map.specs.Tables.{row, OthersStay}
 use Rattle.book.specs.Limits.{span_text_limit, span_number_limit, most_spans, span_text_row, span_number_row}
 use Rattle.book.specs.Maps.{find, put}
@@ -18,7 +17,7 @@ use Rattle.tables.specs.declared.settings.Settings.{Settings}
 use Rattle.tables.specs.Store.{Store, store, Rowed, only, chained, is_live, is_handed, handed, live_key, span_at}
 use Rattle.tables.specs.InOrder.{Within, Lengths, OthersInOrder, SpanLimits, InOrder}
 use Rattle.tables.specs.Shows.{text_pair, live_view, handed_view, LikeSpan, Shows}
-use Rattle.std.proofs.lemmas.Option.{slice_get_within}
+use Rattle.std.proofs.lemmas.Option.{none-some, slice_get_within}
 use Rattle.tables.proofs.Places.{nth_set-same}
 use Rattle.operations.specs.Made.{Puts, SameSettings}
 use Rattle.operations.proofs.Taking.{key-is, apart, kept_set, shown-put, other-cell, other-held, tally-set, only_not, shown_aside}
@@ -40,7 +39,7 @@ live-handed x e = ap is_handed e
 keyed_handed : (k : Mark) (id q : ℕ) → cond (is_live k) (Some id) None ≡ Some q → is_handed k ≡ false
 keyed_handed Free id q e = refl
 keyed_handed Live id q e = refl
-keyed_handed HandedOut id q e = absurd (none-some None q refl e)
+keyed_handed HandedOut id q e = absurd (none-some q e)
 
 within-live : (k : Mark) (t n : ℕ) → k ≡ Live → (t ≤ span_text_limit) × (n ≤ span_number_limit) → Within k t n
 within-live k t n e l = subst (λ k. Within k t n) (sym e) l

@@ -6,14 +6,14 @@ use Rattle.std.proofs.lemmas.Bool.{cases_eq}
 use Rattle.index.specs.declared.entry.Entry.{Entry}
 use Rattle.index.specs.Held.{at}
 use Rattle.index.specs.Holding.{Holds}
-use Rattle.index.proofs.Entries.{none-some, same_some}
+use Rattle.index.proofs.Entries.{same_some}
 use Rattle.book.specs.Maps.{Map, find, put}
 use Rattle.book.proofs.Maps.{find-put, find-put-other, length-put, length-new, distinct_put}
 use Rattle.book.proofs.Boths.{both_some, both-none, both-same, both_left, both-left-none}
 use Rattle.tables.specs.Store.{Store, chained, key_at, only, tally, live_key, standing_key}
 use Rattle.tables.specs.InOrder.{KeptIn, InOrder}
 use Rattle.tables.specs.Shows.{Shown}
-use Rattle.std.proofs.lemmas.Option.{slice_get_within}
+use Rattle.std.proofs.lemmas.Option.{none-some, slice_get_within}
 use Rattle.tables.proofs.Places.{nth_set-same, nth_set-other}
 use Rattle.operations.specs.Done.{HeldWithin}
 use Rattle.operations.specs.Made.{Puts}
@@ -38,7 +38,7 @@ module _ {A : Type 0} (key : A → Option ℕ) (xs : List A) (es : List Entry) (
   pub apart : (q : ℕ) → (q ≡ id → ⊥) → at es q ≡ Some r → ⊥
   apart q ne e = elim way [
     | inl own ↦ ne (same_some (key x) q id (key-is q e) (key-is id own))
-    | inr idle ↦ none-some (key x) q idle.1 (key-is q e)
+    | inr idle ↦ none-some q (sym idle.1 ∙ (key-is q e))
   ]
 
   module _ (x' : A) (es' : List Entry) (p : Puts es es' id r) (named : key x' ≡ Some id) where
@@ -64,7 +64,7 @@ module _ {A : Type 0} (key : A → Option ℕ) (xs : List A) (es : List Entry) (
     not_taken : (n : ℕ) → (n ≡ r → ⊥) → at es id ≡ Some n → ⊥
     not_taken n ne e = elim way [
       | inl own ↦ ne (same_some (at es id) n r e own)
-      | inr idle ↦ none-some (at es id) n idle.0 e
+      | inr idle ↦ none-some n (sym idle.0 ∙ e)
     ]
 
     held-there : (k n : ℕ) → key' n ≡ Some k → at es' k ≡ Some n
@@ -157,7 +157,7 @@ pub held-within : {A : Type 0} (key : A → Option ℕ) (xs : List A) (es : List
 held-within {A} key xs es h id r own = by (slice_get xs r) refl
   where
     by : (z : Option A) → slice_get xs r ≡ z → r < length xs
-    by None e = absurd (none-some (chained key (slice_get xs r)) id (ap (chained key) e) (h.0 id r own))
+    by None e = absurd (none-some id (sym (ap (chained key) e) ∙ (h.0 id r own)))
     by (Some x) e = slice_get_within xs r x e
 
 module _ {T : Type 0} (m : Store T) (o : InOrder m) where

@@ -4,12 +4,12 @@ use lib.ListN.{length-map}
 use Rattle.std.specs.List.{slice_get}
 use Rattle.std.specs.Option.{ok_or}
 use Rattle.std.proofs.lemmas.List.{map-append, length-take-le, set-get_or}
-use Rattle.std.proofs.lemmas.Option.{get_or_from_slice_get}
+use Rattle.std.proofs.lemmas.Option.{none-some, get_or_from_slice_get}
 use Rattle.std.proofs.lemmas.Bool.{lt-ltb, le-ltb}
 use Rattle.vec_map.specs.declared.head.Head.{Head}
 use Rattle.vec_map.specs.Tables.{row, OthersStay}
 use Rattle.index.specs.Held.{at}
-use Rattle.index.proofs.Entries.{none-some, same_some}
+use Rattle.index.proofs.Entries.{same_some}
 use Rattle.refusals.specs.declared.ChangeBufferError.{ChangeBufferError}
 use Rattle.refusals.specs.declared.ChangeBufferError.TheVariants.{RowFull}
 use Rattle.book.specs.Limits.{span_text_limit, span_number_limit}
@@ -198,9 +198,9 @@ module _ {T : Type 0} (bytes : T → Text) where
 
 -- the mark and the id of a record that has a key
 marked_of : (k : Mark) (i q : ℕ) → cond (is_live k) (Some i) None ≡ Some q → (k ≡ Live) × (i ≡ q)
-marked_of Free i q e = absurd (none-some None q refl e)
+marked_of Free i q e = absurd (none-some q e)
 marked_of Live i q e = (refl, same_some (Some i) i q refl e)
-marked_of HandedOut i q e = absurd (none-some None q refl e)
+marked_of HandedOut i q e = absurd (none-some q e)
 
 within_of : (k : Mark) (t n : ℕ) → k ≡ Live → Within k t n → (t ≤ span_text_limit) × (n ≤ span_number_limit)
 within_of k t n e w = subst (λ z. Within z t n) e w

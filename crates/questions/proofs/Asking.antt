@@ -4,11 +4,10 @@ use Rattle.std.specs.Option.{option_map, ok_or}
 use Rattle.std.specs.List.{slice_get}
 use Rattle.std.proofs.lemmas.Bool.{false≢true}
 use Rattle.std.proofs.lemmas.Result.{err_from_is_err_and}
-use Rattle.std.proofs.lemmas.Option.{slice_get_within}
+use Rattle.std.proofs.lemmas.Option.{none-some, slice_get_within}
 use Rattle.index.specs.declared.entry.Entry.{Entry}
 use Rattle.index.specs.Held.{at, Once}
 use Rattle.index.specs.Holding.{Holds}
-use Rattle.index.proofs.Entries.{none-some}
 use Rattle.refusals.specs.declared.ChangeBufferError.{ChangeBufferError}
 use Rattle.refusals.specs.declared.ChangeBufferError.TheVariants.{OutOfOrder, NotHandedOut, SpanNotFound}
 use Rattle.book.specs.Maps.{has, find, Both}
@@ -27,16 +26,16 @@ use Rattle.questions.proofs.Tallies.{tallies-sum, live-tally}
 module _ {A : Type 0} (key : A → Option ℕ) where
   -- a record with a key is there, and so is what is made of it
   key-made : {C : Type 0} (make : A → C) (o : Option A) (k : ℕ) → chained key o ≡ Some k → (c : C) × (option_map make o ≡ Some c)
-  key-made make None k e = absurd (none-some None k refl e)
+  key-made make None k e = absurd (none-some k e)
   key-made make (Some x) k e = (make x, refl)
 
   key-within : (xs : List A) (n k : ℕ) (o : Option A) → slice_get xs n ≡ o → chained key o ≡ Some k → n < length xs
-  key-within xs n k None e h = absurd (none-some None k refl h)
+  key-within xs n k None e h = absurd (none-some k h)
   key-within xs n k (Some x) e h = slice_get_within xs n x e
 
   -- what the index holds for an id is the record in use under it
   pub record_of : (xs : List A) (es : List Entry) → Holds es (key_at key xs) → (id : ℕ) (o : Option ℕ) → o ≡ at es id → RecordOf key xs id o
-  record_of xs es h id None e = λ n k. none-some (at es id) n (sym e) (h.1 id n k)
+  record_of xs es h id None e = λ n k. none-some n (e ∙ (h.1 id n k))
   record_of xs es h id (Some n) e = let k = h.0 id n (sym e) in (key-within xs n id (slice_get xs n) refl k, k)
 
 pub live_record : {T : Type 0} (xs : List (Span T)) (es : List Entry) → Holds es (key_at live_key xs) → (id : ℕ) (r : Result ℕ ChangeBufferError) → r ≡ live_number id es → LiveRecord xs id r

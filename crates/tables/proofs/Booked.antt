@@ -1,13 +1,12 @@
 -- Every memory in order shows a book: the one that is read off it.
-use Rattle.std.proofs.Common.{◌≡◌, ℕ, ◌≤◌, Bool, true, false, cond, List, [], map, length, take, is_some, Some, None, Option, unwrap_or, sym, refl, ap}
+use Rattle.std.proofs.Common.{◌≡◌, ℕ, ◌≤◌, Bool, true, false, cond, List, [], map, length, take, is_some, Some, None, Option, unwrap_or, sym, refl, ap, ◌∙◌}
 use Rattle.std.specs.Option.{option_map}
 use Rattle.std.specs.List.{slice_get}
 use Rattle.std.proofs.lemmas.List.{length-map}
-use Rattle.std.proofs.lemmas.Option.{slice_get_past}
+use Rattle.std.proofs.lemmas.Option.{none-some, slice_get_past}
 use Rattle.std.proofs.lemmas.Bool.{false≢true}
 use Rattle.index.specs.declared.entry.Entry.{Entry}
 use Rattle.index.specs.Held.{at, Once}
-use Rattle.index.proofs.Entries.{none-some}
 use Rattle.book.specs.Maps.{Both}
 use Rattle.book.specs.Book.{Text, Book}
 use Rattle.book.specs.Book as book
@@ -20,7 +19,7 @@ use Rattle.tables.proofs.Gathered.{entered, find-entered, distinct_entered, gath
 -- ---- what is there
 -- a record with a key is there, and so is what is made of it
 key-there : {A C : Type 0} (key : A → Option ℕ) (make : A → C) (o : Option A) (k : ℕ) → chained key o ≡ Some k → is_some (option_map make o) ≡ true
-key-there key make None k e = absurd (none-some None k refl e)
+key-there key make None k e = absurd (none-some k e)
 key-there key make (Some x) k e = refl
 
 -- what is made of a record is there under a test where the record passes that test

@@ -3,7 +3,7 @@ use Rattle.std.proofs.Common.{◌≡◌, ℕ, suc, Bool, false, cond, ltb, List,
 use Rattle.std.specs.List.{slice_get}
 use Rattle.index.specs.declared.entry.Entry.{Entry}
 use Rattle.index.specs.Held.{at}
-use Rattle.index.proofs.Entries.{none-some}
+use Rattle.std.proofs.lemmas.Option.{none-some}
 use Rattle.book.specs.Book.{Text, new_book}
 use Rattle.tables.specs.declared.span.Mark.TheVariants.{Free}
 use Rattle.tables.specs.declared.span.Span.{Span}
@@ -20,10 +20,10 @@ no_keys : {A : Type 0} (key : A → Option ℕ) (Limits : A → Type 0) (xs : Li
 no_keys key Limits xs es e none all = record {
   limits = all;
   indexed = (
-    (λ k n f. absurd (none-some (at es k) n (ap (λ zs. at zs k) e) f)),
+    (λ k n f. absurd (none-some n (sym (ap (λ zs. at zs k) e) ∙ f))),
     λ k n f.
         let x = chained-there key (slice_get xs n) k f in
-        absurd (none-some (key x.0) k (none n x.0 x.1) x.2),
+        absurd (none-some k (sym (none n x.0 x.1) ∙ x.2)),
   );
 }
 

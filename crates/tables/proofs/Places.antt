@@ -1,8 +1,7 @@
 -- What stands at a number in a list.
-use Rattle.std.proofs.Common.{◌≡◌, ℕ, zero, suc, ◌<◌, List, [], ◌∷◌, length, set, Some, None, Option, refl, ap, le_of_suc-le-suc, not-suc-le-zero}
+use Rattle.std.proofs.Common.{◌≡◌, ℕ, zero, suc, ◌<◌, List, [], ◌∷◌, length, set, Some, None, Option, refl, ap, le_of_suc-le-suc, not-suc-le-zero, sym, ◌∙◌}
 use Rattle.std.specs.List.{slice_get}
-use Rattle.std.proofs.lemmas.Option.{slice_get_within}
-use Rattle.index.proofs.Entries.{none-some}
+use Rattle.std.proofs.lemmas.Option.{none-some, slice_get_within}
 use Rattle.tables.specs.Store.{chained}
 
 -- a number at which something stands is below the length
@@ -24,5 +23,5 @@ nth_set-other (y ∷ xs) (suc r) (suc q) x ne = nth_set-other xs r q x (λ e. ne
 
 -- what comes of what is there comes of something
 pub chained-there : {A B : Type 0} (f : A → Option B) (o : Option A) (y : B) → chained f o ≡ Some y → (x : A) × (o ≡ Some x) × (f x ≡ Some y)
-chained-there f None y e = absurd (none-some None y refl e)
+chained-there f None y e = absurd (none-some y e)
 chained-there f (Some x) y e = (x, refl, e)

@@ -1,5 +1,5 @@
 -- The memory of a recorder as one value: the lent tables, what both indexes hold, and the settings; its records with the pairs that count.
-use Rattle.std.specs.Prelude.{ℕ, suc, Bool, true, false, cond, List, [], ◌∷◌, take, Some, None, Option, nat_lt}
+use Rattle.std.specs.Prelude.{ℕ, suc, Bool, true, false, if◌then◌else◌, List, [], ◌∷◌, take, Some, None, Option, nat_lt}
 use Rattle.std.specs.Option.{option_map}
 use Rattle.std.specs.List.{slice_get}
 use Rattle.index.specs.declared.entry.Entry.{Entry}
@@ -50,12 +50,12 @@ is_free HandedOut = false
 -- how many pass a test
 abbrev pub tally : {A : Type 0} → (A → Bool) → List A → ℕ
 tally t [] = 0
-tally t (x ∷ xs) = cond (t x) (suc (tally t xs)) (tally t xs)
+tally t (x ∷ xs) = if t x then suc (tally t xs) else tally t xs
 
 -- one that passes a test, if there is one
 abbrev pub only : {A : Type 0} → (A → Bool) → Option A → Option A
 only t None = None
-only t (Some x) = cond (t x) (Some x) None
+only t (Some x) = if t x then Some x else None
 
 -- what comes of what is there
 abbrev pub chained : {A B : Type 0} → (A → Option B) → Option A → Option B
@@ -90,10 +90,10 @@ module _ {T : Type 0} where
 
   -- the id under which the index has to hold a record: that of a live span, of a standing segment
   abbrev pub live_key : Span T → Option ℕ
-  live_key x = cond (live x) (Some x.id) None
+  live_key x = if live x then Some x.id else None
 
   abbrev pub standing_key : Segment T → Option ℕ
-  standing_key x = cond (stands x) (Some x.id) None
+  standing_key x = if stands x then Some x.id else None
 
   -- record r with its pairs
   abbrev pub span_at : List (Span T) → List (T × T) → List (T × ℕ) → ℕ → Option (Rowed (Span T) T)

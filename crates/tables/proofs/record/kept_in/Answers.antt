@@ -2,9 +2,9 @@ use Rattle.std.proofs.Common.{rules, ◌≡◌, ℕ, not, false, true, nat_eq, S
 use Rattle.std.specs.Option.{option_eq}
 use Rattle.std.proofs.lemmas.Bool.{false≢true, eqb-true, not-false, eq-eqb}
 use Rattle.std.proofs.lemmas.Bool.Decides.{Decides-eqb}
-use Rattle.std.proofs.lemmas.Option.{slice_get_read, slice_get_past, slice_get_within}
+use Rattle.std.proofs.lemmas.Option.{none-some, slice_get_read, slice_get_past, slice_get_within}
 use Rattle.index.specs.Held.{at}
-use Rattle.index.proofs.Entries.{none-some, same_some}
+use Rattle.index.proofs.Entries.{same_some}
 use Rattle.index.proofs.Holding.{many-none, many-more-some, many-more-none, found-more, found_all}
 use Rattle.tables.specs.Store.{chained, key_at}
 use Rattle.tables.proofs.record.kept_in.Goals as goal
@@ -55,7 +55,7 @@ loop-i-preserved g c =
           let none : key_at key xs i ≡ None = own ∙ sym w.in_default.ensures in
           record {
             limits = search rules;
-            found = found-more es (key_at key xs) i v.found (λ k e. absurd (none-some (key_at key xs i) k none e));
+            found = found-more es (key_at key xs) i v.found (λ k e. absurd (none-some k (sym none ∙ e)));
             counted = omega (arith, w.used-is, v.counted, many-more-none (key_at key xs) i none);
             fits = search rules;
           }
