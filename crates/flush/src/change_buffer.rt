@@ -1,18 +1,14 @@
 // The call that flushes a change buffer.
 ghost use Rattle.std.specs.Prelude.{◌≡◌};
-ghost use Rattle.book.specs.Calls.{change_buffer};
 ghost use Rattle.book.specs.Flush.{buffer_after};
-ghost use Rattle.tables.specs.InOrder.{InOrder};
 ghost use Rattle.tables.specs.Lent.{passed};
 ghost use Rattle.recorder.specs.Answers.{answer};
-ghost use Rattle.recorder.specs.Performs.{Performs};
-ghost use Rattle.operations.specs.Done.{SpansKept, SegmentsKept};
-ghost use Rattle.flush.specs.Operation.{Created};
+ghost use Rattle.flush.specs.Flushes.{FlushesAll};
 
 use crate::inner::flushing::flush_bytes;
 use index::Index;
-use refusals::ChangeBufferError;
-use tables::order::tables_in_order;
+use refusals::Result;
+use tables::order::check_order;
 use tables::segment::Segment;
 use tables::settings::Settings;
 use tables::tables::Tables;
@@ -27,15 +23,13 @@ pub fn flush_change_buffer<T: Text, S: Index, G: Index>(
     by_id: &mut S,
     by_segment: &mut G,
     buffer: &mut [u8],
-) -> Result<(), ChangeBufferError>
-    ensures call { Performs T.bytes (change_buffer buffer.old) (passed tables.old segments.old settings.old (S.content by_id.old) (G.content by_segment.old)) (passed tables.new segments.new settings.new (S.content by_id.new) (G.content by_segment.new)) (answer result) }
+) -> Result<()>
+    ensures call { FlushesAll T.bytes buffer.old
+        (passed tables.old segments.old settings.old (S.content by_id.old) (G.content by_segment.old))
+        (passed tables.new segments.new settings.new (S.content by_id.new) (G.content by_segment.new))
+        (answer result) }
     ensures after { buffer.new ≡ buffer_after (answer result) buffer.old }
-    ensures order { InOrder (passed tables.old segments.old settings.old (S.content by_id.old) (G.content by_segment.old)) → InOrder (passed tables.new segments.new settings.new (S.content by_id.new) (G.content by_segment.new)) }
-    ensures spans { SpansKept (Created buffer.old) (passed tables.old segments.old settings.old (S.content by_id.old) (G.content by_segment.old)) (passed tables.new segments.new settings.new (S.content by_id.new) (G.content by_segment.new)) }
-    ensures segments { SegmentsKept (passed tables.old segments.old settings.old (S.content by_id.old) (G.content by_segment.old)) (passed tables.new segments.new settings.new (S.content by_id.new) (G.content by_segment.new)) }
 {
-    if !tables_in_order(tables, segments, settings, by_id, by_segment) {
-        return Err(ChangeBufferError::OutOfOrder);
-    }
+    check_order(tables, segments, settings, by_id, by_segment)?;
     flush_bytes(buffer, tables, segments, settings, by_id, by_segment)
 }

@@ -1,6 +1,5 @@
 -- The memory of a recorder with one part replaced.
 use Rattle.std.specs.Prelude.{ℕ, ◌+◌, ◌*◌, ◌<◌, ◌≤◌, List, length}
-use Rattle.std.specs.Borrow.{MutBor}
 use Rattle.index.specs.declared.entry.Entry.{Entry}
 use Rattle.tables.specs.declared.span.Span.{Span}
 use Rattle.tables.specs.declared.segment.Segment.{Segment}
@@ -39,10 +38,6 @@ module _ {T : Type 0} where
   -- and the segment records with their index
   abbrev pub with_seated : Tables T → List (Segment T) → List Entry → Store T → Store T
   with_seated t ys es m = with_seats es (with_segments ys (with_tables t m))
-
-  -- the lent tables with other text pairs of spans
-  abbrev pub with_texts : MutBor (List (T × T)) → Tables T → Tables T
-  with_texts ms t = record { spans = t.spans; span_meta = ms; span_metrics = t.span_metrics; segment_meta = t.segment_meta; segment_metrics = t.segment_metrics; strings = t.strings; defaults = t.defaults }
 
   -- record r lies in the span tables with both its rows
   pub record HasRows (t : Tables T) (r : ℕ) : Type 0 where

@@ -6,6 +6,7 @@ ghost use Rattle.tables.specs.Store.{live_key, standing_key};
 
 use crate::segment::Segment;
 use crate::span::{Mark, NUMBER_LIMIT, Span, TEXT_LIMIT};
+use crate::{segment, span};
 use index::Index;
 use texts::Text;
 
@@ -51,9 +52,9 @@ impl<T: Text> Record for Span<T> {
 
     const MOST: usize = 4096;
 
-    const TEXT_ROW: usize = 99;
+    const TEXT_ROW: usize = span::TEXT_ROW;
 
-    const NUMBER_ROW: usize = 54;
+    const NUMBER_ROW: usize = span::NUMBER_ROW;
 
     fn key(&self) -> Option<u64> {
         match self.mark {
@@ -86,9 +87,9 @@ impl<T: Text> Record for Segment<T> {
 
     const MOST: usize = 256;
 
-    const TEXT_ROW: usize = 32;
+    const TEXT_ROW: usize = segment::TEXT_ROW;
 
-    const NUMBER_ROW: usize = 16;
+    const NUMBER_ROW: usize = segment::NUMBER_ROW;
 
     fn key(&self) -> Option<u64> {
         if self.count > 0 { Some(self.id) } else { None }

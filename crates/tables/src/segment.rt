@@ -9,6 +9,11 @@ pub struct Decisions {
     pub agent: Option<f64>,
 }
 
+// How many text pairs and number pairs the rows of a segment take. Operations may fill them.
+pub const TEXT_ROW: usize = 32;
+
+pub const NUMBER_ROW: usize = 16;
+
 // A segment: one visit of a trace to the service. It stands while its count is above 0.
 #[derive(Drop)]
 pub struct Segment<T> {

@@ -10,8 +10,13 @@ pub enum Mark {
     HandedOut,
 }
 
-// How many text pairs and number pairs operations may write to a span. A chunk's tags fit into its rows besides.
+// How many text pairs and number pairs the rows of a span take, and how many of them operations may write: a chunk's tags
+// fit in besides.
+pub const TEXT_ROW: usize = 99;
+
 pub const TEXT_LIMIT: usize = 64;
+
+pub const NUMBER_ROW: usize = 54;
 
 pub const NUMBER_LIMIT: usize = 32;
 

@@ -6,7 +6,7 @@ ghost use Rattle.tables.specs.InOrder.{InOrder};
 ghost use Rattle.tables.specs.Lent.{passed};
 ghost use Rattle.tables.specs.Store.{Store};
 ghost use Rattle.operations.specs.Done.{gone};
-ghost use Rattle.operations.specs.Parts.{with_spans, with_span_meta, with_tables, with_texts};
+ghost use Rattle.operations.specs.Parts.{with_spans, with_span_meta, with_tables};
 ghost use Rattle.operations.specs.Made.{SameSettings, made_span, new_segment, Roomy, Puts, RecordFor, CanGrow, Makes, Enters, Creates};
 
 use crate::inner::places::{Place, seat_for, span_for};
@@ -16,36 +16,38 @@ use index::entry::Entry;
 use refusals::{ChangeBufferError, Result};
 use tables::segment::Segment;
 use tables::settings::Settings;
-use tables::span::{Mark, Span};
+use tables::span::{Mark, Span, TEXT_ROW};
 use tables::tables::Tables;
 use texts::Text;
 use vec_map::head::Head;
 
-// One default pair to a place of the text table.
-fn copy_default<T: Text>(tables: &mut Tables<'_, T>, default: usize, place: usize)
-    requires place { place < length tables.old.span_meta.now }
-    requires within { default < length tables.old.defaults.now }
-    ensures pair { (p : _) → slice_get tables.old.defaults.now default ≡ Some p → tables.new.span_meta.now ≡ slice_set tables.old.span_meta.now place p }
-    ensures rest { tables.new ≡ with_texts tables.new.span_meta tables.old }
+// The first pairs of a list into the front of a row.
+fn fill_row<T: Text>(row: &mut [(T, T)], pairs: &[(T, T)], count: usize)
+    requires place { count ≤ length row.old }
+    requires within { count ≤ length pairs.now }
+    ensures items { take count row.new ≡ take count pairs.now }
 {
-    tables.span_meta[place] = tables.defaults[default];
+    row[..count].copy_from_slice(&pairs[..count]);
 }
 
-// The default pairs into the text row of a span; every other row stays as it is. They go one by one, since the check
-// does not lend a slice of a `&mut Tables` to be read.
-fn fill_defaults<T: Text>(tables: &mut Tables<'_, T>, number: usize, count: usize)
-    requires place { number * 99 + 99 ≤ length tables.old.span_meta.now }
-    requires within { count ≤ length tables.old.defaults.now }
+// The default pairs into the text row of a span; every other row stays as it is. They are lent by `&mut`, since the check
+// does not yet lend pairs that lie in a field of a `&mut Tables` by `&`.
+fn fill_defaults<T: Text>(
+    span_meta: &mut [(T, T)],
+    number: usize,
+    defaults: &mut [(T, T)],
+    count: usize,
+)
+    requires place { number * 99 + 99 ≤ length span_meta.old }
+    requires within { count ≤ length defaults.old }
     requires bound { count ≤ 32 }
-    ensures items { take count (row 99 number tables.new.span_meta.now) ≡ take count tables.old.defaults.now }
-    ensures others { OthersStay 99 number tables.old.span_meta.now tables.new.span_meta.now }
-    ensures long { length tables.new.span_meta.now ≡ length tables.old.span_meta.now }
-    ensures rest { tables.new ≡ with_texts tables.new.span_meta tables.old }
+    ensures items { take count (row 99 number span_meta.new) ≡ take count defaults.old }
+    ensures others { OthersStay 99 number span_meta.old span_meta.new }
+    ensures long { length span_meta.new ≡ length span_meta.old }
+    ensures same { defaults.new ≡ defaults.old }
 {
-    let from = number * 99;
-    for i in 0..count {
-        copy_default(tables, i, from + i);
-    }
+    let from = number * TEXT_ROW;
+    fill_row(&mut span_meta[from..from + TEXT_ROW], defaults, count);
 }
 
 // The hint moves on where the span's record is taken from the free ones: each may hold the next in place of a segment.
@@ -115,7 +117,7 @@ fn make_span<T: Text, S: Index>(
     ensures rest { (m : Store T) → with_tables tables.new m ≡ with_spans tables.new.spans.now (with_span_meta tables.new.span_meta.now (with_tables tables.old m)) }
 {
     let count = settings.defaults;
-    fill_defaults(tables, place.number, count);
+    fill_defaults(tables.span_meta, place.number, tables.defaults, count);
     let span = &mut tables.spans[place.number];
     move_hint(settings, span, place.number);
     *span = new_span(place.id, segment, making, count);

@@ -7,6 +7,7 @@ use crate::inner::rows::insert_below;
 use crate::values::Pair;
 use index::entry::Entry;
 use refusals::{ChangeBufferError, Result};
+use tables::span::{NUMBER_LIMIT, NUMBER_ROW, TEXT_LIMIT, TEXT_ROW};
 use tables::tables::Tables;
 use texts::Text;
 
@@ -20,11 +21,27 @@ pub fn add_pair<T: Text>(tables: &mut Tables<'_, T>, found: Entry, pair: Pair<T>
     match pair {
         Pair::Meta(key, value) => {
             let head = &mut tables.spans[number].meta;
-            insert_below(tables.span_meta, 99, number, 64, head, key, value)
+            insert_below(
+                tables.span_meta,
+                TEXT_ROW,
+                number,
+                TEXT_LIMIT,
+                head,
+                key,
+                value,
+            )
         }
         Pair::Metric(key, bits) => {
             let head = &mut tables.spans[number].metrics;
-            insert_below(tables.span_metrics, 54, number, 32, head, key, bits)
+            insert_below(
+                tables.span_metrics,
+                NUMBER_ROW,
+                number,
+                NUMBER_LIMIT,
+                head,
+                key,
+                bits,
+            )
         }
     }
     .ok_or(ChangeBufferError::RowFull(found.id))

@@ -10,7 +10,7 @@ use crate::values::Pair;
 use index::Index;
 use index::entry::Entry;
 use refusals::{ChangeBufferError, Result};
-use tables::segment::Segment;
+use tables::segment::{NUMBER_ROW, Segment, TEXT_ROW};
 use tables::tables::Tables;
 use texts::Text;
 
@@ -46,11 +46,27 @@ fn pair_at<T: Text>(
     match pair {
         Pair::Meta(key, value) => {
             let head = &mut segments[number].meta;
-            insert_below(tables.segment_meta, 32, number, 32, head, key, value)
+            insert_below(
+                tables.segment_meta,
+                TEXT_ROW,
+                number,
+                TEXT_ROW,
+                head,
+                key,
+                value,
+            )
         }
         Pair::Metric(key, bits) => {
             let head = &mut segments[number].metrics;
-            insert_below(tables.segment_metrics, 16, number, 16, head, key, bits)
+            insert_below(
+                tables.segment_metrics,
+                NUMBER_ROW,
+                number,
+                NUMBER_ROW,
+                head,
+                key,
+                bits,
+            )
         }
     }
     .ok_or(ChangeBufferError::RowFull(found.id))

@@ -1,13 +1,34 @@
+use Rattle.std.proofs.Common.{refl}
+use Rattle.std.proofs.lemmas.Result.{err_from_is_err_and}
 use Rattle.book.specs.Calls.{change_buffer}
-use Rattle.recorder.proofs.Performing.{turned-away, no_order}
+use Rattle.recorder.proofs.Performing.{turned-away}
+use Rattle.operations.proofs.Keeping.{records-same}
 use Rattle.flush.proofs.change_buffer.flush_change_buffer.Goals as goal
 
-pub returns-then-not-tables_in_order-clause-call : goal.returns-then-not-tables_in_order-clause-call
-returns-then-not-tables_in_order-clause-call g c =
-    turned-away g.T.Text.bytes (change_buffer c.args.buffer.now) _ (no_order c.tables_in_order.result c.if-not-tables_in_order.true c.tables_in_order.ensures)
+pub returns-in_err-check_order : goal.returns-in_err-check_order
+returns-in_err-check_order g c =
+    let p = err_from_is_err_and c.from_residual.result c.from_residual.ensures.1 in
+    rw (p.1, p.2, c.in_err-check_order.ensures.1)
+    (record {
+      call = record {
+        call = turned-away g.T.Text.bytes (change_buffer c.args.buffer.now) _ c.in_err-check_order.ensures.0;
+        order = λ o. o;
+        spans = records-same _ _ _ _ _ _;
+        segments = records-same _ _ _ _ _ _;
+      };
+      after = refl;
+    })
 
-pub returns-clause-call : goal.returns-clause-call
-returns-clause-call g c = record {
-  untouched = λ n. absurd (n (c.tables_in_order.ensures.0 c.if-not-tables_in_order.false));
-  shows = c.flush_bytes.ensures.flushes.shows;
+pub returns : goal.returns
+returns g c = record {
+  call = record {
+    call = record {
+      untouched = λ n. absurd (n c.in_ok-check_order.ensures);
+      shows = c.flush_bytes.ensures.flushes.shows;
+    };
+    order = λ o. c.flush_bytes.ensures.flushes.order;
+    spans = c.flush_bytes.ensures.flushes.spans_kept;
+    segments = c.flush_bytes.ensures.flushes.segments_kept;
+  };
+  after = c.flush_bytes.ensures.after;
 }
