@@ -1,7 +1,7 @@
 // The call that sets a segment's sampling decisions.
 ghost use Rattle.std.specs.Prelude.{◌≡◌};
 ghost use Rattle.book.specs.Calls.{decisions};
-ghost use Rattle.tables.specs.Lent.{passed};
+ghost use Rattle.tables.specs.Lent.{SameMemory, passed};
 ghost use Rattle.recorder.specs.Answers.{answer};
 ghost use Rattle.recorder.specs.Decisions.{decided, decided_in};
 ghost use Rattle.recorder.specs.Performs.{Changes};
@@ -24,7 +24,8 @@ pub fn set_decisions<T: Text, S: Index, G: Index>(
     id: u64,
     sampling: Decisions,
 ) -> refusals::Result<()>
-    ensures { Changes T.bytes
+    ensures memory { SameMemory tables.old tables.new }
+    ensures call { Changes T.bytes
         (decisions id sampling.rule sampling.limit sampling.agent) (decided_in id sampling result)
         (passed tables.old segments.old settings.old (S.content by_id.old) (G.content by_segment.old))
         (passed tables.new segments.new settings.new (S.content by_id.new) (G.content by_segment.new))

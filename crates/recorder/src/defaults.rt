@@ -1,7 +1,7 @@
 // The call that sets the default pairs, which every new span gets.
 ghost use Rattle.std.specs.Prelude.{◌≡◌, map, length};
 ghost use Rattle.book.specs.Calls.{default_meta};
-ghost use Rattle.tables.specs.Lent.{passed};
+ghost use Rattle.tables.specs.Lent.{SameMemory, passed};
 ghost use Rattle.tables.specs.Shows.{text_pair};
 ghost use Rattle.recorder.specs.Answers.{answer};
 ghost use Rattle.recorder.specs.Defaults.{Replaces, replaced};
@@ -24,7 +24,8 @@ pub fn set_default_meta<T: Text, S: Index, G: Index>(
     by_segment: &mut G,
     pairs: &[(T, T)],
 ) -> refusals::Result<()>
-    ensures { Changes T.bytes
+    ensures memory { SameMemory tables.old tables.new }
+    ensures call { Changes T.bytes
         (default_meta (map (text_pair T.bytes) pairs.now)) (replaced pairs.now result)
         (passed tables.old segments.old settings.old (S.content by_id.old) (G.content by_segment.old))
         (passed tables.new segments.new settings.new (S.content by_id.new) (G.content by_segment.new))

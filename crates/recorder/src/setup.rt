@@ -1,5 +1,5 @@
 // Set-up: an empty recorder in the lent tables.
-ghost use Rattle.tables.specs.Lent.{passed};
+ghost use Rattle.tables.specs.Lent.{SameMemory, passed};
 ghost use Rattle.recorder.specs.Setup.{SetsUp};
 
 use index::Index;
@@ -23,7 +23,8 @@ pub fn set_up<T: Text, S: Index, G: Index>(
     language: T,
     pid: u32,
 ) -> refusals::Result<()>
-    ensures { SetsUp T.bytes service language pid
+    ensures memory { SameMemory tables.old tables.new }
+    ensures call { SetsUp T.bytes service language pid
         (passed tables.old segments.old settings.old (S.content by_id.old) (G.content by_segment.old))
         (passed tables.new segments.new settings.new (S.content by_id.new) (G.content by_segment.new))
         result }

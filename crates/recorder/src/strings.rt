@@ -1,7 +1,7 @@
 // The calls on the string table. They write by index: of a slice's `get_mut` a proof learns the length alone.
 ghost use Rattle.std.specs.Prelude.{Some, None};
 ghost use Rattle.book.specs.Calls.{string_insert, string_evict};
-ghost use Rattle.tables.specs.Lent.{passed};
+ghost use Rattle.tables.specs.Lent.{SameMemory, passed};
 ghost use Rattle.recorder.specs.Answers.{answer};
 ghost use Rattle.recorder.specs.Performs.{Changes};
 ghost use Rattle.recorder.specs.Strings.{written};
@@ -24,7 +24,8 @@ pub fn string_table_insert_one<T: Text, S: Index, G: Index>(
     key: u32,
     val: T,
 ) -> refusals::Result<()>
-    ensures { Changes T.bytes
+    ensures memory { SameMemory tables.old tables.new }
+    ensures call { Changes T.bytes
         (string_insert key (T.bytes val)) (written key (Some val) result)
         (passed tables.old segments.old settings.old (S.content by_id.old) (G.content by_segment.old))
         (passed tables.new segments.new settings.new (S.content by_id.new) (G.content by_segment.new))
@@ -48,7 +49,8 @@ pub fn string_table_evict_one<T: Text, S: Index, G: Index>(
     by_segment: &mut G,
     key: u32,
 ) -> refusals::Result<()>
-    ensures { Changes T.bytes
+    ensures memory { SameMemory tables.old tables.new }
+    ensures call { Changes T.bytes
         (string_evict key) (written key None result)
         (passed tables.old segments.old settings.old (S.content by_id.old) (G.content by_segment.old))
         (passed tables.new segments.new settings.new (S.content by_id.new) (G.content by_segment.new))

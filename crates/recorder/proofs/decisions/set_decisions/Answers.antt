@@ -5,8 +5,8 @@ use Rattle.recorder.proofs.Performing.{turned-back}
 use Rattle.recorder.proofs.Sampling.{found-within, sampled}
 use Rattle.recorder.proofs.decisions.set_decisions.Goals as goal
 
-pub returns-in_err-check_order : goal.returns-in_err-check_order
-returns-in_err-check_order g c =
+pub returns-in_err-check_order-clause-call : goal.returns-in_err-check_order-clause-call
+returns-in_err-check_order-clause-call g c =
     turned-back g.T.Text.bytes (decisions c.args.id c.args.sampling.rule c.args.sampling.limit c.args.sampling.agent) (decided_in c.args.id c.args.sampling) _ (λ e. refl)
     c.from_residual.result _ c.from_residual.ensures.1 c.in_err-check_order.ensures
 
@@ -18,7 +18,7 @@ offset_bounds-segments-place g c =
 pub bounds-segments-place : goal.bounds-segments-place
 bounds-segments-place g c = found-within _ c.args.id c.in-Some.place c.in_ok-check_order.ensures (sym c.in-Some.ensures)
 
-pub returns : goal.returns
-returns g c =
+pub returns-clause-call : goal.returns-clause-call
+returns-clause-call g c =
     sampled c.args.sampling g.T.Text.bytes _ c.args.id c.in-Some.place c.index-segments-place.result c.decide.new.segment
     c.in_ok-check_order.ensures (sym c.in-Some.ensures) c.decide.ensures

@@ -5,13 +5,13 @@ use Rattle.recorder.proofs.Performing.{turned-back}
 use Rattle.recorder.proofs.Stringing.{inserted, beyond}
 use Rattle.recorder.proofs.strings.string_table_insert_one.Goals as goal
 
-pub returns-in_err-check_order : goal.returns-in_err-check_order
-returns-in_err-check_order g c =
+pub returns-in_err-check_order-clause-call : goal.returns-in_err-check_order-clause-call
+returns-in_err-check_order-clause-call g c =
     turned-back g.T.Text.bytes (string_insert c.args.key (g.T.Text.bytes c.args.val)) (written c.args.key (Some c.args.val)) _ (λ e. refl)
     c.from_residual.result _ c.from_residual.ensures.1 c.in_err-check_order.ensures
 
-pub returns-then-place-tables : goal.returns-then-place-tables
-returns-then-place-tables g c = beyond g.T.Text.bytes _ c.args.key c.args.val c.in_ok-check_order.ensures c.if-place-tables.true
+pub returns-then-place-tables-clause-call : goal.returns-then-place-tables-clause-call
+returns-then-place-tables-clause-call g c = beyond g.T.Text.bytes _ c.args.key c.args.val c.in_ok-check_order.ensures c.if-place-tables.true
 
-pub returns : goal.returns
-returns g c = inserted g.T.Text.bytes _ c.args.key c.args.val c.in_ok-check_order.ensures c.if-place-tables.false
+pub returns-clause-call : goal.returns-clause-call
+returns-clause-call g c = inserted g.T.Text.bytes _ c.args.key c.args.val c.in_ok-check_order.ensures c.if-place-tables.false
