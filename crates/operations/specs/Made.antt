@@ -1,10 +1,11 @@
 -- What a create takes and leaves: a record for the span, a record for its segment, and what is made of both.
-use Rattle.std.specs.Prelude.{◌≡◌, ℕ, ◌+◌, ◌<◌, ◌≤◌, Bool, false, if◌then◌else◌, ◌⊎◌, List, [], length, take, pos, is_some, Some, None, Result, ◌≢◌, slice_set}
+use Rattle.std.specs.Prelude.{◌≡◌, ℕ, ◌+◌, ◌<◌, ◌≤◌, Bool, false, if◌then◌else◌, ◌⊎◌, List, [], length, take, pos, is_some, Some, None, Ok, Err, Result, ◌≢◌, slice_set}
 use Rattle.std.specs.List.{slice_get}
 use Rattle.vec_map.specs.Tables.{row, OthersStay}
 use Rattle.index.specs.declared.entry.Entry.{Entry}
 use Rattle.index.specs.Held.{at}
 use Rattle.refusals.specs.declared.ChangeBufferError.{ChangeBufferError}
+use Rattle.refusals.specs.declared.ChangeBufferError.TheVariants.{NoRecord, NoSegmentRecord}
 use Rattle.book.specs.Limits.{most_count}
 use Rattle.book.specs.Book.{Text, Field, Writing, blank, latest, texts, numbers}
 use Rattle.book.specs.Flush.{make}
@@ -12,7 +13,7 @@ use Rattle.tables.specs.declared.span.Mark.TheVariants.{Live}
 use Rattle.tables.specs.declared.span.Span.{Span}
 use Rattle.tables.specs.declared.segment.Segment.{Segment}
 use Rattle.tables.specs.declared.settings.Settings.{Settings}
-use Rattle.tables.specs.Store.{Store, stands}
+use Rattle.tables.specs.Store.{Store, free, stands}
 use Rattle.tables.specs.Shows.{span_field}
 use Rattle.operations.specs.declared.values.Making.{Making}
 use Rattle.operations.specs.Done.{Unused, gone, Done}
@@ -58,6 +59,15 @@ module _ {T : Type 0} where
   abbrev pub NoSeat : List Entry → List (Segment T) → ℕ → Type 0
   NoSeat es ys id =
       NoRecordFor gone es ys id ⊎ ((g : ℕ) × (y : Segment T) × (at es id ≡ Some g) × (slice_get ys g ≡ Some y) × (most_count ≤ y.count))
+
+  -- the place of a span or of a segment with this id, or the refusal
+  abbrev pub SpanPlace : List Entry → List (Span T) → ℕ → Result Entry ChangeBufferError → Type 0
+  SpanPlace es xs id (Ok p) = (p.id ≡ id) × RecordFor free es xs id p.number
+  SpanPlace es xs id (Err e) = (e ≡ NoRecord id) × NoRecordFor free es xs id
+
+  abbrev pub SeatPlace : List Entry → List (Segment T) → ℕ → Result Entry ChangeBufferError → Type 0
+  SeatPlace es ys id (Ok p) = (p.id ≡ id) × SeatFor es ys id p.number
+  SeatPlace es ys id (Err e) = (e ≡ NoSegmentRecord id) × NoSeat es ys id
 
   -- ---- what is made
 

@@ -13,7 +13,7 @@ use crate::inner::places::{Place, seat_for, span_for};
 use crate::values::Making;
 use index::Index;
 use index::entry::Entry;
-use refusals::{ChangeBufferError, Result};
+use refusals::Result;
 use tables::segment::Segment;
 use tables::settings::Settings;
 use tables::span::{Mark, Span, TEXT_ROW};
@@ -173,27 +173,9 @@ pub fn create<T: Text, S: Index, G: Index>(
     requires order { InOrder (passed tables.old segments.old settings.old (S.content by_id.old) (G.content by_segment.old)) }
     ensures done { Creates T.bytes id segment making (passed tables.old segments.old settings.old (S.content by_id.old) (G.content by_segment.old)) (passed tables.new segments.new settings.new (S.content by_id.new) (G.content by_segment.new)) result }
 {
-    let number = span_for(tables, by_id, id, settings.next_free).ok_or(ChangeBufferError::NoRecord(
-        id,
-    ))?;
-    let seat = seat_for(segments, by_segment, segment).ok_or(ChangeBufferError::NoSegmentRecord(
-        segment,
-    ))?;
-    make_span(
-        tables,
-        settings,
-        by_id,
-        Entry { id, number },
-        segment,
-        making,
-    );
-    enter_segment(
-        segments,
-        by_segment,
-        Entry {
-            id: segment,
-            number: seat,
-        },
-    );
+    let place = span_for(tables, by_id, id, settings.next_free)?;
+    let seat = seat_for(segments, by_segment, segment)?;
+    make_span(tables, settings, by_id, place, segment, making);
+    enter_segment(segments, by_segment, seat);
     Ok(())
 }

@@ -3,9 +3,11 @@ ghost use Rattle.std.specs.Prelude.{◌≡◌, ℕ, ◌<◌, Bool, length, Match
 ghost use Rattle.std.specs.List.{position};
 ghost use Rattle.tables.specs.Store.{free};
 ghost use Rattle.operations.specs.Done.{Unused, gone, HeldWithin};
-ghost use Rattle.operations.specs.Made.{NoneUnused, RecordFor, NoRecordFor, SeatFor, NoSeat, CanGrow};
+ghost use Rattle.operations.specs.Made.{NoneUnused, RecordFor, NoRecordFor, CanGrow, SpanPlace, SeatPlace};
 
 use index::Index;
+use index::entry::Entry;
+use refusals::{ChangeBufferError, Result};
 use tables::segment::Segment;
 use tables::span::{Mark, Span};
 use tables::tables::Tables;
@@ -65,16 +67,19 @@ fn record_for<R: Place, I: Index>(records: &[R], index: &I, id: u64, hint: usize
     index.find(id).or_else(|| unused(records, hint))
 }
 
-// The record of a span: its own, else a free one.
+// The place of a span: its own, else a free one. Refused (11) where it has none and no record is free.
 pub fn span_for<T: Text, S: Index>(
     tables: &Tables<'_, T>,
     by_id: &S,
     id: u64,
     hint: usize,
-) -> Option<usize>
-    ensures { MatchOption result (NoRecordFor free (S.content by_id.now).held tables.now.spans.now id) (RecordFor free (S.content by_id.now).held tables.now.spans.now id) }
+) -> Result<Entry>
+    ensures { SpanPlace (S.content by_id.now).held tables.now.spans.now id result }
 {
-    record_for(tables.spans, by_id, id, hint)
+    match record_for(tables.spans, by_id, id, hint) {
+        Some(number) => Ok(Entry { id, number }),
+        None => Err(ChangeBufferError::NoRecord(id)),
+    }
 }
 
 fn can_grow<T: Text>(segments: &[Segment<T>], seat: usize) -> bool
@@ -84,16 +89,18 @@ fn can_grow<T: Text>(segments: &[Segment<T>], seat: usize) -> bool
     segments[seat].count < u32::MAX
 }
 
-// The record of a segment whose count can grow, else one where none stands. As long as no segment has gone, the next one
-// stands at their count.
+// The place of a segment whose count can grow, else one where none stands. As long as no segment has gone, the next one
+// stands at their count. Refused (12) where its count cannot grow, or it has none and every record is in use.
 pub fn seat_for<T: Text, G: Index>(
     segments: &[Segment<T>],
     by_segment: &G,
     id: u64,
-) -> Option<usize>
+) -> Result<Entry>
     requires { HeldWithin (G.content by_segment.now).held (length segments.now) }
-    ensures { MatchOption result (NoSeat (G.content by_segment.now).held segments.now id) (SeatFor (G.content by_segment.now).held segments.now id) }
+    ensures { SeatPlace (G.content by_segment.now).held segments.now id result }
 {
-    let seat = record_for(segments, by_segment, id, by_segment.count())?;
-    can_grow(segments, seat).then_some(seat)
+    match record_for(segments, by_segment, id, by_segment.count()) {
+        Some(number) if can_grow(segments, number) => Ok(Entry { id, number }),
+        _ => Err(ChangeBufferError::NoSegmentRecord(id)),
+    }
 }
