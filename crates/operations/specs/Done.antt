@@ -6,6 +6,7 @@ use Rattle.vec_map.specs.declared.head.Head.{Head}
 use Rattle.index.specs.declared.entry.Entry.{Entry}
 use Rattle.index.specs.Held.{at}
 use Rattle.refusals.specs.declared.ChangeBufferError.{ChangeBufferError}
+use Rattle.book.specs.Limits.{segment_text_limit, segment_number_limit}
 use Rattle.book.specs.Book.{Text, Writing}
 use Rattle.book.specs.Actions.{Act}
 use Rattle.book.specs.Acts.{Ending, reached, turned_down, Acts}
@@ -95,5 +96,5 @@ HeldWithin es n = (id r : ℕ) → at es id ≡ Some r → r < n
 -- every id of a segment is held for one of the records, and the tables have both rows of each
 pub record SegmentRows {T : Type 0} (t : Tables T) (ys : List (Segment T)) (es : List Entry) : Type 0 where
   pub within : HeldWithin es (length ys)
-  pub text_rows : length t.segment_meta.now ≡ length ys * 32
-  pub number_rows : length t.segment_metrics.now ≡ length ys * 16
+  pub text_rows : length t.segment_meta.now ≡ length ys * segment_text_limit
+  pub number_rows : length t.segment_metrics.now ≡ length ys * segment_number_limit

@@ -1,6 +1,7 @@
 -- The memory of a recorder with one part replaced.
 use Rattle.std.specs.Prelude.{ℕ, ◌+◌, ◌*◌, ◌<◌, ◌≤◌, List, length}
 use Rattle.index.specs.declared.entry.Entry.{Entry}
+use Rattle.book.specs.Limits.{span_text_row, span_number_row}
 use Rattle.tables.specs.declared.span.Span.{Span}
 use Rattle.tables.specs.declared.segment.Segment.{Segment}
 use Rattle.tables.specs.declared.tables.Tables.{Tables}
@@ -42,5 +43,5 @@ module _ {T : Type 0} where
   -- record r lies in the span tables with both its rows
   pub record HasRows (t : Tables T) (r : ℕ) : Type 0 where
     pub within : r < length t.spans.now
-    pub text_row : r * 99 + 99 ≤ length t.span_meta.now
-    pub number_row : r * 54 + 54 ≤ length t.span_metrics.now
+    pub text_row : r * span_text_row + span_text_row ≤ length t.span_meta.now
+    pub number_row : r * span_number_row + span_number_row ≤ length t.span_metrics.now
