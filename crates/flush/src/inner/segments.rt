@@ -1,6 +1,7 @@
 // Operations on the segment of a live span, by their kind.
 ghost use Rattle.std.specs.Prelude.{ℕ};
 ghost use Rattle.layout.specs.Reads.{held};
+ghost use Rattle.tables.specs.Lent.{SameMemory};
 ghost use Rattle.operations.specs.Done.{SegmentRows};
 ghost use Rattle.operations.specs.Parts.{with_seated};
 ghost use Rattle.interpret.specs.Played.{note_attribute, OnAny};
@@ -25,6 +26,7 @@ pub fn on_segment<T: Text, G: Index>(
     operation: OnSegment,
 ) -> Result<()>
     requires rows { SegmentRows tables.old segments.old (G.content by_segment.now).held }
+    ensures memory { SameMemory tables.old tables.new }
     ensures played { OnAny T.bytes (note_attribute (segment_attribute operation) segment) (held buffer.now) (with_seated tables.old segments.old (G.content by_segment.now).held) (with_seated tables.new segments.new (G.content by_segment.now).held) index.old index.new result }
 {
     match operation {

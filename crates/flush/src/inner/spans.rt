@@ -1,6 +1,7 @@
 // Operations on a live span, by their kind.
 ghost use Rattle.std.specs.Prelude.{ℕ};
 ghost use Rattle.layout.specs.Reads.{held};
+ghost use Rattle.tables.specs.Lent.{SameMemory};
 ghost use Rattle.operations.specs.Parts.{HasRows, with_tables};
 ghost use Rattle.interpret.specs.Played.{OnLive};
 ghost use Rattle.flush.specs.Operation.{span_act};
@@ -22,6 +23,7 @@ pub fn on_span<T: Text>(
     operation: OnSpan,
 ) -> Result<()>
     requires rows { HasRows tables.old found.number }
+    ensures memory { SameMemory tables.old tables.new }
     ensures played { OnLive T.bytes found.id found.number (span_act operation found.id) (held buffer.now) (with_tables tables.old) (with_tables tables.new) index.old index.new result }
 {
     match operation {

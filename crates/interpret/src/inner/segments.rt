@@ -1,6 +1,7 @@
 // Operations on the segment of a live span, which are read and dropped where it is gone.
 ghost use Rattle.std.specs.Prelude.{◌≡◌, ℕ};
 ghost use Rattle.layout.specs.Reads.{held};
+ghost use Rattle.tables.specs.Lent.{SameMemory};
 ghost use Rattle.operations.specs.Done.{HeldWithin, SegmentRows};
 ghost use Rattle.operations.specs.Parts.{with_seated};
 ghost use Rattle.interpret.specs.Attributes.{origin_attribute, pair_attribute};
@@ -26,6 +27,7 @@ pub fn set_trace_pair<T: Text, G: Index>(
     kind: PairKind,
 ) -> Result<()>
     requires rows { SegmentRows tables.old segments.old (G.content by_segment.now).held }
+    ensures memory { SameMemory tables.old tables.new }
     ensures played { OnAny T.bytes (note_attribute (pair_attribute kind) segment) (held buffer.now) (with_seated tables.old segments.old (G.content by_segment.now).held) (with_seated tables.new segments.new (G.content by_segment.now).held) index.old index.new result }
 {
     let pair = read_pair(buffer, index, tables, kind)?;

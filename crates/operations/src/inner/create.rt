@@ -3,7 +3,7 @@ ghost use Rattle.std.specs.Prelude.{◌≡◌, ℕ, ◌+◌, ◌*◌, ◌<◌, �
 ghost use Rattle.std.specs.List.{slice_get};
 ghost use Rattle.vec_map.specs.Tables.{row, OthersStay};
 ghost use Rattle.tables.specs.InOrder.{InOrder};
-ghost use Rattle.tables.specs.Lent.{passed};
+ghost use Rattle.tables.specs.Lent.{SameMemory, passed};
 ghost use Rattle.tables.specs.Store.{Store};
 ghost use Rattle.operations.specs.Done.{gone};
 ghost use Rattle.operations.specs.Parts.{with_spans, with_span_meta, with_tables};
@@ -111,6 +111,7 @@ fn make_span<T: Text, S: Index>(
     requires pairs { settings.old.defaults ≤ length tables.old.defaults.now }
     requires bound { settings.old.defaults ≤ 32 }
     requires room { Roomy (S.content by_id.old).held (S.content by_id.old).room place.id }
+    ensures memory { SameMemory tables.old tables.new }
     ensures makes { Makes tables.old.spans.now tables.new.spans.now tables.old.span_meta.now tables.new.span_meta.now tables.old.defaults.now settings.old settings.new (S.content by_id.old).held (S.content by_id.new).held place.id segment place.number making }
     ensures capacity { (S.content by_id.new).room ≡ (S.content by_id.old).room }
     ensures long { length tables.new.span_meta.now ≡ length tables.old.span_meta.now }
@@ -171,6 +172,7 @@ pub fn create<T: Text, S: Index, G: Index>(
     making: Making<T>,
 ) -> Result<()>
     requires order { InOrder (passed tables.old segments.old settings.old (S.content by_id.old) (G.content by_segment.old)) }
+    ensures memory { SameMemory tables.old tables.new }
     ensures done { Creates T.bytes id segment making (passed tables.old segments.old settings.old (S.content by_id.old) (G.content by_segment.old)) (passed tables.new segments.new settings.new (S.content by_id.new) (G.content by_segment.new)) result }
 {
     let place = span_for(tables, by_id, id, settings.next_free)?;
