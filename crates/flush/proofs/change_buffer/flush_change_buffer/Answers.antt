@@ -1,6 +1,7 @@
 use Rattle.std.proofs.Common.{refl}
 use Rattle.std.proofs.lemmas.Result.{err_from_is_err_and}
 use Rattle.book.specs.Calls.{change_buffer}
+use Rattle.tables.proofs.Memory.{memory_kept}
 use Rattle.recorder.proofs.Performing.{turned-away}
 use Rattle.operations.proofs.Keeping.{records-same}
 use Rattle.flush.proofs.change_buffer.flush_change_buffer.Goals as goal
@@ -10,6 +11,7 @@ returns-in_err-check_order g c =
     let p = err_from_is_err_and c.from_residual.result c.from_residual.ensures.1 in
     rw (p.1, p.2, c.in_err-check_order.ensures.1)
     (record {
+      memory = memory_kept _;
       call = record {
         call = turned-away g.T.Text.bytes (change_buffer c.args.buffer.now) _ c.in_err-check_order.ensures.0;
         order = λ o. o;
@@ -21,6 +23,7 @@ returns-in_err-check_order g c =
 
 pub returns : goal.returns
 returns g c = record {
+  memory = c.flush_bytes.ensures.memory;
   call = record {
     call = record {
       untouched = λ n. absurd (n c.in_ok-check_order.ensures);
