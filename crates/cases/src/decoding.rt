@@ -11,7 +11,7 @@ const OPERANDS: [usize; 17] = [32, 8, 12, 4, 4, 4, 8, 8, 4, 4, 8, 12, 4, 44, 56,
 // A buffer with one operation, whose operands are zeros.
 fn one(heap: Global, opcode: u8, operands: usize) -> Result<Vec<u8>, AllocError> {
     let mut bytes = vec![in heap; 1, 0, 0, 0, 0, 0, 0, 0, opcode, 0, 9, 0, 0, 0, 0, 0, 0, 0]?;
-    bytes.resize(18 + operands, 0)?;
+    bytes.resize(operands.saturating_add(18), 0)?;
     Ok(bytes)
 }
 

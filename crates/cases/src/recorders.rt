@@ -106,10 +106,7 @@ mod tests {
     use std::process::Abort;
     use std::test::Fail;
 
-    fn refused<S: Index + Drop>(
-        rt: &impl Abort,
-        mut records: Records<S>,
-    ) -> Result<(), Fail> {
+    fn refused<S: Index + Drop>(rt: &impl Abort, mut records: Records<S>) -> Result<(), Fail> {
         match tried(&mut records) {
             (Ok(()), _) => Err(Fail::new("accepted")),
             (Err(refusal), same) => {

@@ -1,6 +1,5 @@
 -- What holds of every call.
-use Rattle.std.proofs.Common.{◌≡◌, Bool, false, Err, Decides, IsErrAnd, Result, sym, refl}
-use Rattle.std.proofs.lemmas.Bool.{iff_false}
+use Rattle.std.proofs.Common.{◌≡◌, Err, IsErrAnd, Result, sym, refl}
 use Rattle.std.proofs.lemmas.Result.{err_from_is_err_and}
 use Rattle.refusals.specs.declared.ChangeBufferError.{ChangeBufferError}
 use Rattle.refusals.specs.declared.ChangeBufferError.TheVariants.{OutOfOrder}
@@ -24,7 +23,3 @@ pub turned-back : {T : Type 0} (bytes : T → Text) (call : Call) (by : Result (
 turned-back bytes call by m same r e is out =
     let p = err_from_is_err_and r is in
     rw (p.1, p.2, out.1) (record { call = turned-away bytes call m out.0; after = sym (same OutOfOrder) })
-
--- the question was answered no
-pub no_order : {P : Type 0} (r : Bool) → r ≡ false → Decides r P → P → ⊥
-no_order r e d p = iff_false d e p

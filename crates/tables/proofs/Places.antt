@@ -1,5 +1,5 @@
 -- What stands at a number in a list.
-use Rattle.std.proofs.Common.{◌≡◌, ℕ, zero, suc, ◌<◌, List, [], ◌∷◌, length, set, Some, None, Option, refl, ap, le_of_suc-le-suc, not-suc-le-zero, sym, ◌∙◌}
+use Rattle.std.proofs.Common.{◌≡◌, ℕ, zero, suc, ◌<◌, List, [], ◌∷◌, length, set, Some, None, Option, refl, ap, le_of_suc-le-suc, not-suc-le-zero}
 use Rattle.std.specs.List.{slice_get}
 use Rattle.std.proofs.lemmas.Option.{none-some, slice_get_within}
 use Rattle.tables.specs.Store.{chained}

@@ -112,9 +112,7 @@ impl Recorder {
             spans: (0..sizes.spans).map(|_| blank_span()).collect(heap)?,
             span_meta: rows(heap, sizes.spans, 99, none)?,
             span_metrics: rows(heap, sizes.spans, 54, 0)?,
-            segments: (0..sizes.segments)
-                .map(|_| blank_segment())
-                .collect(heap)?,
+            segments: (0..sizes.segments).map(|_| blank_segment()).collect(heap)?,
             segment_meta: rows(heap, sizes.segments, 32, none)?,
             segment_metrics: rows(heap, sizes.segments, 16, 0)?,
             strings: vec![in heap; None; sizes.strings]?,
@@ -165,7 +163,9 @@ impl Recorder {
                 set_default_meta(tables, segments, settings, by_id, by_segment, pairs)?
             }
             Call::Decisions(id, decisions) => {
-                set_decisions(tables, segments, settings, by_id, by_segment, *id, *decisions)?
+                set_decisions(
+                    tables, segments, settings, by_id, by_segment, *id, *decisions,
+                )?
             }
             Call::Span(id) => {
                 let number = get_span(tables, segments, settings, by_id, by_segment, *id)?;
@@ -180,8 +180,9 @@ impl Recorder {
                 return Ok(Answer::HandedOut);
             }
             Call::Numbers => {
-                let (live, handed_out, free) =
-                    get_numbers(tables, segments, settings, by_id, by_segment)?;
+                let (live, handed_out, free) = get_numbers(
+                    tables, segments, settings, by_id, by_segment,
+                )?;
                 return Ok(Answer::Numbers(live, handed_out, free));
             }
         }

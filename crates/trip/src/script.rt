@@ -1,8 +1,7 @@
 // A script: one call a line, its name first and then its words. Comments go from '#' to the line's end.
 use std::alloc::{AllocError, Global};
-use std::fmt;
-use std::io;
 use std::str::{FromStr, SplitWhitespace};
+use std::{fmt, io};
 use tables::segment::Decisions;
 use texts::short::ShortText;
 use thiserror::Error;
@@ -133,7 +132,10 @@ impl<'a> Script<'a> {
         let mut lines = Vec::new(heap);
         for (i, line) in text.lines().enumerate() {
             let number = i.saturating_add(1);
-            let text = line.split_once('#').map_or(line, |(before, _)| before).trim();
+            let text = line
+                .split_once('#')
+                .map_or(line, |(before, _)| before)
+                .trim();
             match call_of(heap, text) {
                 Ok(Some(call)) => {
                     sizes = Some(sizes_with(sizes, &call, number)?);
@@ -167,7 +169,10 @@ fn call_of(heap: Global, line: &str) -> Result<Option<Call>, BadLine> {
     let words = &mut words;
     let call = match name {
         "setup" => set_up(words)?,
-        "string" => Call::StringInsert(number(words, Part::StringNumber)?, text(words, Part::Text)?),
+        "string" => Call::StringInsert(
+            number(words, Part::StringNumber)?,
+            text(words, Part::Text)?,
+        ),
         "evict" => Call::StringEvict(number(words, Part::StringNumber)?),
         "defaults" => defaults(heap, words)?,
         "decisions" => Call::Decisions(number(words, Part::SegmentId)?, three_decisions(words)?),

@@ -13,12 +13,12 @@ pub returns-in_err-segment-clause-played : goal.returns-in_err-segment-clause-pl
 returns-in_err-segment-clause-played g c =
     let p = err_from_is_err_and c.from_residual.result c.from_residual.ensures.1 in
     rw (p.1, p.2) (as_create g.T.Text.bytes (held c.args.buffer.now) (fields_of c.args.extra) c.args.id (λ q. q ≡ c.args.id) _ _ c.args.index.now c.read_creation.new.index _
-          (unread g.T.Text.bytes (held c.args.buffer.now) _ c.args.index.now (λ q. q ≡ c.args.id) (read_create (fields_of c.args.extra)) (λ x. make c.args.id x.0 x.1) c.read_creation.new.index c.in_err-segment.field-0.0 c.requires.order
-          (c.in_err-segment.ensures.reads (passed c.args.tables.now c.args.segments.now c.args.settings.now (g.S.Index.content c.args.by_id.now) (g.G.Index.content c.args.by_segment.now)))))
+    (unread g.T.Text.bytes (held c.args.buffer.now) _ c.args.index.now (λ q. q ≡ c.args.id) (read_create (fields_of c.args.extra)) (λ x. make c.args.id x.0 x.1) c.read_creation.new.index c.in_err-segment.field-0.0 c.requires.order
+    (c.in_err-segment.ensures.reads (passed c.args.tables.now c.args.segments.now c.args.settings.now (g.S.Index.content c.args.by_id.now) (g.G.Index.content c.args.by_segment.now)))))
 
 pub returns-clause-played : goal.returns-clause-played
 returns-clause-played g c =
     as_create g.T.Text.bytes (held c.args.buffer.now) (fields_of c.args.extra) c.args.id (λ q. q ≡ c.args.id) _ _ c.args.index.now c.read_creation.new.index _
-      (read_done g.T.Text.bytes (held c.args.buffer.now) _ c.args.index.now (λ q. q ≡ c.args.id) (read_create (fields_of c.args.extra)) (λ x. make c.args.id x.0 x.1) _ c.read_creation.new.index _ _
-      (c.in_ok-segment.ensures.reads (passed c.args.tables.now c.args.segments.now c.args.settings.now (g.S.Index.content c.args.by_id.now) (g.G.Index.content c.args.by_segment.now)))
-      (c.create.ensures.done _ (gives g.T.Text.bytes _ c.args.extra c.in_ok-segment.ensures.blank)))
+    (read_done g.T.Text.bytes (held c.args.buffer.now) _ c.args.index.now (λ q. q ≡ c.args.id) (read_create (fields_of c.args.extra)) (λ x. make c.args.id x.0 x.1) _ c.read_creation.new.index _ _
+    (c.in_ok-segment.ensures.reads (passed c.args.tables.now c.args.segments.now c.args.settings.now (g.S.Index.content c.args.by_id.now) (g.G.Index.content c.args.by_segment.now)))
+    (c.create.ensures.done _ (gives g.T.Text.bytes _ c.args.extra c.in_ok-segment.ensures.blank)))

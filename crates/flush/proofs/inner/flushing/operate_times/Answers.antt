@@ -20,7 +20,7 @@ returns-in_err-operate-clause-played g c =
     let n = c.loop.counter in
     let same : n + suc (c.args.count - suc n) ≡ c.args.count = omega arith in
     rw (p.1, p.2) (played_turned g.T.Text.bytes operation b (Created b) (passed c.args.tables.now c.args.segments.now c.args.settings.now (g.S.Index.content c.args.by_id.now) (g.G.Index.content c.args.by_segment.now)) c.args.index.now (Created b) (λ id e. e) (passed c.loop.tables c.loop.segments c.loop.settings (g.S.Index.content c.loop.by_id) (g.G.Index.content c.loop.by_segment)) _ n c.loop.index c.operate.new.index c.loop.invariant.2
-          (c.args.count - suc n) c.args.count c.in_err-operate.field-0.0 same c.in_err-operate.ensures.played)
+    (c.args.count - suc n) c.args.count c.in_err-operate.field-0.0 same c.in_err-operate.ensures.played)
 
 pub loop-preserved : goal.loop-preserved
 loop-preserved g c =

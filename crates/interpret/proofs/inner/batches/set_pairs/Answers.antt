@@ -16,9 +16,9 @@ returns-in_err-set_pair-clause-played g c =
     let p = err_from_is_err_and c.from_residual.result c.from_residual.ensures.1 in
     let same : c.loop.counter + suc (c.args.count - suc c.loop.counter) ≡ c.args.count = omega arith in
     rw (p.1, p.2) (λ m o own.
-          let before = c.loop.invariant.played m o own in
-          played_turned g.T.Text.bytes (set_attribute (pair_attribute c.args.kind) c.args.found.id) (held c.args.buffer.now) NoneMade _ c.args.index.now NoneMade (λ id e. e) _ _ c.loop.counter c.loop.index c.set_pair.new.index before
-          (c.args.count - suc c.loop.counter) c.args.count c.in_err-set_pair.field-0.0 same (c.in_err-set_pair.ensures.played m before.order own))
+    let before = c.loop.invariant.played m o own in
+    played_turned g.T.Text.bytes (set_attribute (pair_attribute c.args.kind) c.args.found.id) (held c.args.buffer.now) NoneMade _ c.args.index.now NoneMade (λ id e. e) _ _ c.loop.counter c.loop.index c.set_pair.new.index before
+    (c.args.count - suc c.loop.counter) c.args.count c.in_err-set_pair.field-0.0 same (c.in_err-set_pair.ensures.played m before.order own))
 
 pub loop-preserved : goal.loop-preserved
 loop-preserved g c = record {

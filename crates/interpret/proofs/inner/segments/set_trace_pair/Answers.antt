@@ -9,12 +9,12 @@ pub returns-in_err-pair-clause-played : goal.returns-in_err-pair-clause-played
 returns-in_err-pair-clause-played g c =
     let p = err_from_is_err_and c.from_residual.result c.from_residual.ensures.1 in
     rw (p.1, p.2) (λ m o.
-          note-unread g.T.Text.bytes (held c.args.buffer.now) _ c.args.index.now (pair_attribute c.args.kind) c.args.segment c.read_pair.new.index c.in_err-pair.field-0.0 o
-          (c.in_err-pair.ensures.reads (with_seated c.args.tables.now c.args.segments.now (g.G.Index.content c.args.by_segment.now).held m)))
+    note-unread g.T.Text.bytes (held c.args.buffer.now) _ c.args.index.now (pair_attribute c.args.kind) c.args.segment c.read_pair.new.index c.in_err-pair.field-0.0 o
+    (c.in_err-pair.ensures.reads (with_seated c.args.tables.now c.args.segments.now (g.G.Index.content c.args.by_segment.now).held m)))
 
 pub returns-clause-played : goal.returns-clause-played
 returns-clause-played g c =
     λ m o.
-      note_done g.T.Text.bytes (held c.args.buffer.now) _ c.args.index.now (pair_attribute c.args.kind) c.args.segment _ c.read_pair.new.index _ _
-      (c.in_ok-pair.ensures.reads (with_seated c.args.tables.now c.args.segments.now (g.G.Index.content c.args.by_segment.now).held m))
-      (c.add_segment_pair.ensures.done m o)
+    note_done g.T.Text.bytes (held c.args.buffer.now) _ c.args.index.now (pair_attribute c.args.kind) c.args.segment _ c.read_pair.new.index _ _
+    (c.in_ok-pair.ensures.reads (with_seated c.args.tables.now c.args.segments.now (g.G.Index.content c.args.by_segment.now).held m))
+    (c.add_segment_pair.ensures.done m o)

@@ -14,7 +14,7 @@ pub returns-in_err-place-clause-done : goal.returns-in_err-place-clause-done
 returns-in_err-place-clause-done g c =
     let p = err_from_is_err_and c.from_residual.result c.from_residual.ensures.1 in
     rw (p.1, p.2, c.in_err-place.ensures.0) (λ ws gives.
-          done_no_record _ c.requires.order (g.met.S.Index.once c.args.by_id.now) (g.met.G.Index.once c.args.by_segment.now) g.T.Text.bytes c.args.id c.args.segment ws c.in_err-place.ensures.1)
+    done_no_record _ c.requires.order (g.met.S.Index.once c.args.by_id.now) (g.met.G.Index.once c.args.by_segment.now) g.T.Text.bytes c.args.id c.args.segment ws c.in_err-place.ensures.1)
 
 pub seat_for-requires : goal.seat_for-requires
 seat_for-requires g c = seats-within _ c.requires.order
@@ -23,8 +23,8 @@ pub returns-in_err-seat-clause-done : goal.returns-in_err-seat-clause-done
 returns-in_err-seat-clause-done g c =
     let p = err_from_is_err_and c.from_residual-in_err-seat.result c.from_residual-in_err-seat.ensures.1 in
     rw (p.1, p.2, c.in_err-seat.ensures.0) (λ ws gives.
-          done_no_seat _ c.requires.order (g.met.S.Index.once c.args.by_id.now) (g.met.G.Index.once c.args.by_segment.now) g.T.Text.bytes c.args.id c.args.segment ws
-          c.in_ok-place.place.number c.in_ok-place.ensures.1 c.in_err-seat.ensures.1)
+    done_no_seat _ c.requires.order (g.met.S.Index.once c.args.by_id.now) (g.met.G.Index.once c.args.by_segment.now) g.T.Text.bytes c.args.id c.args.segment ws
+    c.in_ok-place.place.number c.in_ok-place.ensures.1 c.in_err-seat.ensures.1)
 
 pub make_span-requires-clause-within : goal.make_span-requires-clause-within
 make_span-requires-clause-within g c = record_within _ _ c.args.tables.now.spans.now c.args.id c.in_ok-place.place.number (ids-within _ c.requires.order) c.in_ok-place.ensures.1
@@ -56,11 +56,11 @@ enter_segment-requires-clause-room g c =
 pub returns-clause-done : goal.returns-clause-done
 returns-clause-done g c =
     λ ws gives.
-      let m = passed c.args.tables.now c.args.segments.now c.args.settings.now (g.S.Index.content c.args.by_id.now) (g.G.Index.content c.args.by_segment.now) in
-      let end = λ (z : Store g.row.T.Denot). store z.spans z.span_meta z.span_metrics c.enter_segment.new.segments z.segment_meta z.segment_metrics z.strings z.defaults c.make_span.new.settings (g.S.Index.content c.make_span.new.by_id).held (g.S.Index.content c.make_span.new.by_id).room (g.G.Index.content c.enter_segment.new.by_segment).held (g.G.Index.content c.enter_segment.new.by_segment).room in
-      subst (λ z. Done g.T.Text.bytes (make c.args.id c.args.segment ws) (λ q. q ≡ c.args.id) m z (Ok tt)) (sym (ap end (c.make_span.ensures.rest m)))
-      (created m c.requires.order (g.met.S.Index.once c.args.by_id.now) (g.met.G.Index.once c.args.by_segment.now) g.T.Text.bytes c.args.id c.args.segment c.in_ok-place.place.number c.in_ok-seat.seat.number c.args.making
-      c.in_ok-place.ensures.1 c.in_ok-seat.ensures.1 c.make_span.new.tables.spans.now c.make_span.new.tables.span_meta.now c.enter_segment.new.segments c.make_span.new.settings
-      _ _ _ _ c.make_span.ensures.long c.make_span.ensures.capacity c.enter_segment.ensures.capacity
-      (subst (λ (q : ℕ). Makes c.args.tables.now.spans.now c.make_span.new.tables.spans.now c.args.tables.now.span_meta.now c.make_span.new.tables.span_meta.now c.args.tables.now.defaults.now c.args.settings.now c.make_span.new.settings (g.S.Index.content c.args.by_id.now).held (g.S.Index.content c.make_span.new.by_id).held q c.args.segment c.in_ok-place.place.number c.args.making) c.in_ok-place.ensures.0 c.make_span.ensures.makes)
-      (subst (λ (q : ℕ). Enters c.args.segments.now c.enter_segment.new.segments (g.G.Index.content c.args.by_segment.now).held (g.G.Index.content c.enter_segment.new.by_segment).held q c.in_ok-seat.seat.number) c.in_ok-seat.ensures.0 c.enter_segment.ensures.enters) ws gives)
+    let m = passed c.args.tables.now c.args.segments.now c.args.settings.now (g.S.Index.content c.args.by_id.now) (g.G.Index.content c.args.by_segment.now) in
+    let end = λ (z : Store g.row.T.Denot). store z.spans z.span_meta z.span_metrics c.enter_segment.new.segments z.segment_meta z.segment_metrics z.strings z.defaults c.make_span.new.settings (g.S.Index.content c.make_span.new.by_id).held (g.S.Index.content c.make_span.new.by_id).room (g.G.Index.content c.enter_segment.new.by_segment).held (g.G.Index.content c.enter_segment.new.by_segment).room in
+    subst (λ z. Done g.T.Text.bytes (make c.args.id c.args.segment ws) (λ q. q ≡ c.args.id) m z (Ok tt)) (sym (ap end (c.make_span.ensures.rest m)))
+    (created m c.requires.order (g.met.S.Index.once c.args.by_id.now) (g.met.G.Index.once c.args.by_segment.now) g.T.Text.bytes c.args.id c.args.segment c.in_ok-place.place.number c.in_ok-seat.seat.number c.args.making
+    c.in_ok-place.ensures.1 c.in_ok-seat.ensures.1 c.make_span.new.tables.spans.now c.make_span.new.tables.span_meta.now c.enter_segment.new.segments c.make_span.new.settings
+    _ _ _ _ c.make_span.ensures.long c.make_span.ensures.capacity c.enter_segment.ensures.capacity
+    (subst (λ (q : ℕ). Makes c.args.tables.now.spans.now c.make_span.new.tables.spans.now c.args.tables.now.span_meta.now c.make_span.new.tables.span_meta.now c.args.tables.now.defaults.now c.args.settings.now c.make_span.new.settings (g.S.Index.content c.args.by_id.now).held (g.S.Index.content c.make_span.new.by_id).held q c.args.segment c.in_ok-place.place.number c.args.making) c.in_ok-place.ensures.0 c.make_span.ensures.makes)
+    (subst (λ (q : ℕ). Enters c.args.segments.now c.enter_segment.new.segments (g.G.Index.content c.args.by_segment.now).held (g.G.Index.content c.enter_segment.new.by_segment).held q c.in_ok-seat.seat.number) c.in_ok-seat.ensures.0 c.enter_segment.ensures.enters) ws gives)

@@ -1,4 +1,4 @@
-use Rattle.std.proofs.Common.{◌≡◌, length, take, ◌∙◌, arith, length-take}
+use Rattle.std.proofs.Common.{◌≡◌, length, ◌∙◌, arith, length-take}
 use Rattle.std.proofs.lemmas.List.{take_at}
 use Rattle.operations.proofs.inner.create.fill_row.Goals as goal
 
