@@ -1,7 +1,7 @@
 // What is kept of a row beside its pairs.
 
 // How many pairs of a row count, and the mark that no key stands in it twice.
-#[derive(Clone, Copy, Debug, Default, PartialEq, Eq)]
+#[derive(Clone, Copy, Debug, PartialEq, Eq, Default)]
 pub struct Head {
     pub count: usize,
     pub deduped: bool,
