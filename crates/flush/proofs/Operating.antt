@@ -20,6 +20,8 @@ use Rattle.tables.specs.Store.{Store, free}
 use Rattle.tables.specs.InOrder.{InOrder}
 use Rattle.tables.specs.Shows.{Shows}
 use Rattle.recorder.specs.Answers.{refusal, answer}
+use Rattle.tables.specs.declared.tables.Tables.{Tables}
+use Rattle.operations.specs.Parts.{SharedStay}
 use Rattle.operations.specs.Done.{SpansKept, ending, gone}
 use Rattle.operations.proofs.Keeping.{records-same}
 use Rattle.interpret.specs.Creation.{fields_of}
@@ -35,6 +37,10 @@ use Rattle.flush.specs.Operation.{meaning, made_by, Created}
 pub still_cached : (es es' : List Entry) (last : Option Entry) → ((id r : ℕ) → at es id ≡ Some r → at es' id ≡ Some r) → Cached es last → Cached es' last
 still_cached es es' None stays c = tt
 still_cached es es' (Some f) stays c = stays f.id f.number c
+
+-- strings and default pairs that stayed, and then again
+pub shared_then : {T : Type 0} (t t₁ t₂ : Tables T) → SharedStay t t₁ → SharedStay t₁ t₂ → SharedStay t t₂
+shared_then t t₁ t₂ a b = record { strings = b.strings ∙ a.strings; defaults = b.defaults ∙ a.defaults }
 
 -- ---- the head of an operation
 

@@ -3,7 +3,10 @@ ghost use Rattle.std.specs.Prelude.{◌≡◌};
 ghost use Rattle.book.specs.Flush.{buffer_after};
 ghost use Rattle.tables.specs.Lent.{SameMemory, passed};
 ghost use Rattle.recorder.specs.Answers.{answer};
-ghost use Rattle.flush.specs.Flushes.{FlushesAll};
+ghost use Rattle.recorder.specs.Performs.{Performs};
+ghost use Rattle.operations.specs.Parts.{SharedStay};
+ghost use Rattle.operations.specs.Done.{SpansKept, SegmentsKept};
+ghost use Rattle.flush.specs.Operation.{Created};
 
 use crate::inner::flushing::flush_bytes;
 use index::Index;
@@ -30,6 +33,10 @@ pub fn flush_change_buffer<T: Text, S: Index, G: Index>(
         (passed tables.new segments.new settings.new (S.content by_id.new) (G.content by_segment.new))
         (answer result) }
     ensures after { buffer.new ≡ buffer_after (answer result) buffer.old }
+    ensures order { InOrder (passed tables.old segments.old settings.old (S.content by_id.old) (G.content by_segment.old)) → InOrder (passed tables.new segments.new settings.new (S.content by_id.new) (G.content by_segment.new)) }
+    ensures spans { SpansKept (Created buffer.old) (passed tables.old segments.old settings.old (S.content by_id.old) (G.content by_segment.old)) (passed tables.new segments.new settings.new (S.content by_id.new) (G.content by_segment.new)) }
+    ensures segments { SegmentsKept (passed tables.old segments.old settings.old (S.content by_id.old) (G.content by_segment.old)) (passed tables.new segments.new settings.new (S.content by_id.new) (G.content by_segment.new)) }
+    ensures shared { SharedStay tables.old tables.new }
 {
     check_order(tables, segments, settings, by_id, by_segment)?;
     flush_bytes(buffer, tables, segments, settings, by_id, by_segment)

@@ -13,6 +13,8 @@ use Rattle.tables.specs.InOrder.{InOrder}
 use Rattle.tables.specs.Shows.{Shows}
 use Rattle.std.proofs.lemmas.Option.{none-some, slice_get_within}
 use Rattle.recorder.specs.Answers.{refusal}
+use Rattle.tables.specs.declared.tables.Tables.{Tables}
+use Rattle.operations.specs.Parts.{SpansOnly}
 use Rattle.operations.specs.Done.{Unused, RowMoved, RowsMoved, RecordsKept, SpansKept, SegmentsKept, gone}
 use Rattle.operations.proofs.Creating.{at-number}
 use Rattle.operations.proofs.Keeping.{records-same}
@@ -56,6 +58,13 @@ module _ {A : Type 0} (unused : A → Bool) (meta metrics : A → Head) (Made Ma
         let y = at-number xs₁ r (subst (λ (l : ℕ). r < l) (sym a.long) (slice_get_within xs r x e)) in
         moved_then r (meta x) (metrics x) (meta y.0) (metrics y.0) (meta x₂) (metrics x₂) (a.marks r x y.0 e y.1) (b.marks r y.0 x₂ y.1 e₂);
   }
+
+-- ---- tables
+
+-- where spans and their rows alone changed, and then again
+pub only_then : {T : Type 0} (t t₁ t₂ : Tables T) → SpansOnly t t₁ → SpansOnly t₁ t₂ → SpansOnly t t₂
+only_then t t₁ t₂ a b =
+    b ∙ ap (λ z. record { spans = t₂.spans; span_meta = t₂.span_meta; span_metrics = t₂.span_metrics; segment_meta = z.segment_meta; segment_metrics = z.segment_metrics; strings = z.strings; defaults = z.defaults }) a
 
 -- ---- actions
 

@@ -1,5 +1,6 @@
 -- The memory of a recorder with one part replaced.
-use Rattle.std.specs.Prelude.{ℕ, ◌+◌, ◌*◌, ◌<◌, ◌≤◌, List, length}
+use Rattle.std.specs.Prelude.{◌≡◌, ℕ, ◌+◌, ◌*◌, ◌<◌, ◌≤◌, List, length}
+use Rattle.std.specs.Borrow.{MutBor}
 use Rattle.index.specs.declared.entry.Entry.{Entry}
 use Rattle.book.specs.Limits.{span_text_row, span_number_row}
 use Rattle.tables.specs.declared.span.Span.{Span}
@@ -39,6 +40,27 @@ module _ {T : Type 0} where
   -- and the segment records with their index
   abbrev pub with_seated : Tables T → List (Segment T) → List Entry → Store T → Store T
   with_seated t ys es m = with_seats es (with_segments ys (with_tables t m))
+
+  -- the lent tables with other text pairs of spans
+  abbrev pub with_texts : MutBor (List (T × T)) → Tables T → Tables T
+  with_texts ms t = record { spans = t.spans; span_meta = ms; span_metrics = t.span_metrics; segment_meta = t.segment_meta; segment_metrics = t.segment_metrics; strings = t.strings; defaults = t.defaults }
+
+  -- of the lent tables these alone may have changed: the spans and their rows
+  abbrev pub SpansOnly : (old new : Tables T) → Type 0
+  SpansOnly t n = n ≡ record { spans = n.spans; span_meta = n.span_meta; span_metrics = n.span_metrics; segment_meta = t.segment_meta; segment_metrics = t.segment_metrics; strings = t.strings; defaults = t.defaults }
+
+  -- the spans and their text rows
+  abbrev pub TextsOnly : (old new : Tables T) → Type 0
+  TextsOnly t n = n ≡ record { spans = n.spans; span_meta = n.span_meta; span_metrics = t.span_metrics; segment_meta = t.segment_meta; segment_metrics = t.segment_metrics; strings = t.strings; defaults = t.defaults }
+
+  -- the rows of the segments
+  abbrev pub RowsOnly : (old new : Tables T) → Type 0
+  RowsOnly t n = n ≡ record { spans = t.spans; span_meta = t.span_meta; span_metrics = t.span_metrics; segment_meta = n.segment_meta; segment_metrics = n.segment_metrics; strings = t.strings; defaults = t.defaults }
+
+  -- all but the strings and the default pairs
+  pub record SharedStay (old new : Tables T) : Type 0 where
+    pub strings : new.strings ≡ old.strings
+    pub defaults : new.defaults ≡ old.defaults
 
   -- record r lies in the span tables with both its rows
   pub record HasRows (t : Tables T) (r : ℕ) : Type 0 where

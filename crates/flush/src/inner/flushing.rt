@@ -4,7 +4,8 @@ ghost use Rattle.layout.specs.Reads.{held};
 ghost use Rattle.book.specs.Actions.{times};
 ghost use Rattle.book.specs.Flush.{perform as performs, operation as one-operation, operations as all-operations};
 ghost use Rattle.tables.specs.InOrder.{InOrder};
-ghost use Rattle.tables.specs.Lent.{SameMemory, passed};
+ghost use Rattle.tables.specs.Lent.{passed};
+ghost use Rattle.operations.specs.Parts.{SharedStay};
 ghost use Rattle.interpret.specs.Played.{Played};
 ghost use Rattle.book.specs.Flush.{buffer_after};
 ghost use Rattle.recorder.specs.Answers.{answer};
@@ -45,6 +46,7 @@ fn perform<T: Text, S: Index, G: Index>(
     requires cached { Cached (S.content by_id.old).held last.old }
     ensures memory { SameMemory tables.old tables.new }
     ensures played { Played T.bytes (performs (meaning operation) id) (made_by operation id) (held buffer.now) (passed tables.old segments.old settings.old (S.content by_id.old) (G.content by_segment.old)) (passed tables.new segments.new settings.new (S.content by_id.new) (G.content by_segment.new)) index.old index.new result }
+    ensures shared { SharedStay tables.old tables.new }
     ensures cached { Cached (S.content by_id.new).held last.new }
 {
     match operation {
@@ -77,6 +79,7 @@ fn operate<T: Text, S: Index, G: Index>(
     requires cached { Cached (S.content by_id.old).held last.old }
     ensures memory { SameMemory tables.old tables.new }
     ensures played { Played T.bytes one-operation (Created (held buffer.now)) (held buffer.now) (passed tables.old segments.old settings.old (S.content by_id.old) (G.content by_segment.old)) (passed tables.new segments.new settings.new (S.content by_id.new) (G.content by_segment.new)) index.old index.new result }
+    ensures shared { SharedStay tables.old tables.new }
     ensures cached { Cached (S.content by_id.new).held last.new }
 {
     let head = BufferedOperation::from_buf(buffer, index)?;
@@ -108,6 +111,7 @@ fn operate_times<T: Text, S: Index, G: Index>(
     requires order { InOrder (passed tables.old segments.old settings.old (S.content by_id.old) (G.content by_segment.old)) }
     ensures memory { SameMemory tables.old tables.new }
     ensures played { Played T.bytes (times count one-operation) (Created (held buffer.now)) (held buffer.now) (passed tables.old segments.old settings.old (S.content by_id.old) (G.content by_segment.old)) (passed tables.new segments.new settings.new (S.content by_id.new) (G.content by_segment.new)) index.old index.new result }
+    ensures shared { SharedStay tables.old tables.new }
 {
     let mut last = None;
     for _ in 0..count {
@@ -131,6 +135,7 @@ pub fn flush<T: Text, S: Index, G: Index>(
     requires order { InOrder (passed tables.old segments.old settings.old (S.content by_id.old) (G.content by_segment.old)) }
     ensures memory { SameMemory tables.old tables.new }
     ensures played { Played T.bytes all-operations (Created (held buffer.now)) (held buffer.now) (passed tables.old segments.old settings.old (S.content by_id.old) (G.content by_segment.old)) (passed tables.new segments.new settings.new (S.content by_id.new) (G.content by_segment.new)) index.old index.new result }
+    ensures shared { SharedStay tables.old tables.new }
     ensures bound { OnOk result (index.old + 8 ≤ length (held buffer.now)) }
 {
     let count: u64 = buffer.read(index)?;
@@ -160,6 +165,7 @@ pub fn flush_bytes<T: Text, S: Index, G: Index>(
     ensures memory { SameMemory tables.old tables.new }
     ensures flushes { Flushes T.bytes bytes.old (passed tables.old segments.old settings.old (S.content by_id.old) (G.content by_segment.old)) (passed tables.new segments.new settings.new (S.content by_id.new) (G.content by_segment.new)) (answer result) }
     ensures after { bytes.new ≡ buffer_after (answer result) bytes.old }
+    ensures shared { SharedStay tables.old tables.new }
 {
     let buffer = ChangeBuffer::new(bytes);
     let mut index = 0;

@@ -3,7 +3,7 @@ ghost use Rattle.std.specs.Prelude.{ℕ};
 ghost use Rattle.layout.specs.Reads.{held};
 ghost use Rattle.tables.specs.Lent.{SameMemory};
 ghost use Rattle.operations.specs.Done.{SegmentRows};
-ghost use Rattle.operations.specs.Parts.{with_seated};
+ghost use Rattle.operations.specs.Parts.{RowsOnly, with_seated};
 ghost use Rattle.interpret.specs.Played.{note_attribute, OnAny};
 ghost use Rattle.flush.specs.Operation.{segment_attribute};
 
@@ -28,6 +28,7 @@ pub fn on_segment<T: Text, G: Index>(
     requires rows { SegmentRows tables.old segments.old (G.content by_segment.now).held }
     ensures memory { SameMemory tables.old tables.new }
     ensures played { OnAny T.bytes (note_attribute (segment_attribute operation) segment) (held buffer.now) (with_seated tables.old segments.old (G.content by_segment.now).held) (with_seated tables.new segments.new (G.content by_segment.now).held) index.old index.new result }
+    ensures only { RowsOnly tables.old tables.new }
 {
     match operation {
         OnSegment::Pair(kind) => set_trace_pair(

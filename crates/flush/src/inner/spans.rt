@@ -1,8 +1,7 @@
 // Operations on a live span, by their kind.
 ghost use Rattle.std.specs.Prelude.{ℕ};
 ghost use Rattle.layout.specs.Reads.{held};
-ghost use Rattle.tables.specs.Lent.{SameMemory};
-ghost use Rattle.operations.specs.Parts.{HasRows, with_tables};
+ghost use Rattle.operations.specs.Parts.{HasRows, SpansOnly, with_tables};
 ghost use Rattle.interpret.specs.Played.{OnLive};
 ghost use Rattle.flush.specs.Operation.{span_act};
 
@@ -25,6 +24,7 @@ pub fn on_span<T: Text>(
     requires rows { HasRows tables.old found.number }
     ensures memory { SameMemory tables.old tables.new }
     ensures played { OnLive T.bytes found.id found.number (span_act operation found.id) (held buffer.now) (with_tables tables.old) (with_tables tables.new) index.old index.new result }
+    ensures only { SpansOnly tables.old tables.new }
 {
     match operation {
         OnSpan::Pair(kind) => set_pair(buffer, index, tables, found, kind),

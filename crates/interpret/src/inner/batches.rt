@@ -3,8 +3,7 @@ ghost use Rattle.std.specs.Prelude.{◌≡◌, ℕ};
 ghost use Rattle.layout.specs.Reads.{held};
 ghost use Rattle.book.specs.Actions.{times};
 ghost use Rattle.book.specs.Flush.{set_attribute};
-ghost use Rattle.tables.specs.Lent.{SameMemory};
-ghost use Rattle.operations.specs.Parts.{HasRows, with_tables};
+ghost use Rattle.operations.specs.Parts.{HasRows, SpansOnly, with_tables};
 ghost use Rattle.interpret.specs.Attributes.{pair_attribute};
 ghost use Rattle.interpret.specs.Played.{OnLive, set_counted};
 
@@ -26,6 +25,7 @@ pub fn batch_set_pairs<T: Text>(
     requires rows { HasRows tables.old found.number }
     ensures memory { SameMemory tables.old tables.new }
     ensures played { OnLive T.bytes found.id found.number (set_counted (pair_attribute kind) found.id) (held buffer.now) (with_tables tables.old) (with_tables tables.new) index.old index.new result }
+    ensures only { SpansOnly tables.old tables.new }
 {
     let count: u32 = buffer.read(index)?;
     set_pairs(buffer, index, tables, found, kind, count)
@@ -42,6 +42,7 @@ fn set_pairs<T: Text>(
     requires rows { HasRows tables.old found.number }
     ensures memory { SameMemory tables.old tables.new }
     ensures played { OnLive T.bytes found.id found.number (times count (set_attribute (pair_attribute kind) found.id)) (held buffer.now) (with_tables tables.old) (with_tables tables.new) index.old index.new result }
+    ensures only { SpansOnly tables.old tables.new }
 {
     for _ in 0..count {
         set_pair(buffer, index, tables, found, kind)?;

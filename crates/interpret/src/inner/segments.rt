@@ -3,7 +3,7 @@ ghost use Rattle.std.specs.Prelude.{◌≡◌, ℕ};
 ghost use Rattle.layout.specs.Reads.{held};
 ghost use Rattle.tables.specs.Lent.{SameMemory};
 ghost use Rattle.operations.specs.Done.{HeldWithin, SegmentRows};
-ghost use Rattle.operations.specs.Parts.{with_seated};
+ghost use Rattle.operations.specs.Parts.{RowsOnly, with_seated};
 ghost use Rattle.interpret.specs.Attributes.{origin_attribute, pair_attribute};
 ghost use Rattle.interpret.specs.Played.{note_attribute, OnAny};
 
@@ -29,6 +29,7 @@ pub fn set_trace_pair<T: Text, G: Index>(
     requires rows { SegmentRows tables.old segments.old (G.content by_segment.now).held }
     ensures memory { SameMemory tables.old tables.new }
     ensures played { OnAny T.bytes (note_attribute (pair_attribute kind) segment) (held buffer.now) (with_seated tables.old segments.old (G.content by_segment.now).held) (with_seated tables.new segments.new (G.content by_segment.now).held) index.old index.new result }
+    ensures only { RowsOnly tables.old tables.new }
 {
     let pair = read_pair(buffer, index, tables, kind)?;
     add_segment_pair(tables, segments, by_segment, segment, pair)

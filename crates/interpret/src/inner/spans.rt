@@ -2,8 +2,7 @@
 ghost use Rattle.std.specs.Prelude.{◌≡◌, ℕ};
 ghost use Rattle.layout.specs.Reads.{held};
 ghost use Rattle.book.specs.Flush.{set_attribute};
-ghost use Rattle.tables.specs.Lent.{SameMemory};
-ghost use Rattle.operations.specs.Parts.{HasRows, with_tables};
+ghost use Rattle.operations.specs.Parts.{HasRows, SpansOnly, with_tables};
 ghost use Rattle.interpret.specs.Attributes.{attribute_of, pair_attribute};
 ghost use Rattle.interpret.specs.Played.{OnLive};
 
@@ -27,6 +26,7 @@ pub fn set_pair<T: Text>(
     requires rows { HasRows tables.old found.number }
     ensures memory { SameMemory tables.old tables.new }
     ensures played { OnLive T.bytes found.id found.number (set_attribute (pair_attribute kind) found.id) (held buffer.now) (with_tables tables.old) (with_tables tables.new) index.old index.new result }
+    ensures only { SpansOnly tables.old tables.new }
     ensures rows { HasRows tables.new found.number }
 {
     let pair = read_pair(buffer, index, tables, kind)?;
@@ -43,6 +43,7 @@ pub fn set_span_field<T: Text>(
     requires rows { HasRows tables.old found.number }
     ensures memory { SameMemory tables.old tables.new }
     ensures played { OnLive T.bytes found.id found.number (set_attribute (attribute_of name) found.id) (held buffer.now) (with_tables tables.old) (with_tables tables.new) index.old index.new result }
+    ensures only { SpansOnly tables.old tables.new }
 {
     let field = read_field(buffer, index, tables, name)?;
     set_field(tables.spans, found, field);

@@ -3,10 +3,9 @@ ghost use Rattle.std.specs.Prelude.{◌≡◌, ℕ, ◌+◌, ◌*◌, ◌<◌, �
 ghost use Rattle.std.specs.List.{slice_get};
 ghost use Rattle.vec_map.specs.Tables.{row, OthersStay};
 ghost use Rattle.tables.specs.InOrder.{InOrder};
-ghost use Rattle.tables.specs.Lent.{SameMemory, passed};
-ghost use Rattle.tables.specs.Store.{Store};
+ghost use Rattle.tables.specs.Lent.{passed};
 ghost use Rattle.operations.specs.Done.{gone};
-ghost use Rattle.operations.specs.Parts.{with_spans, with_span_meta, with_tables};
+ghost use Rattle.operations.specs.Parts.{TextsOnly, with_texts};
 ghost use Rattle.operations.specs.Made.{SameSettings, made_span, new_segment, Roomy, Puts, RecordFor, CanGrow, Makes, Enters, Creates};
 
 use crate::inner::places::{Place, seat_for, span_for};
@@ -115,7 +114,7 @@ fn make_span<T: Text, S: Index>(
     ensures makes { Makes tables.old.spans.now tables.new.spans.now tables.old.span_meta.now tables.new.span_meta.now tables.old.defaults.now settings.old settings.new (S.content by_id.old).held (S.content by_id.new).held place.id segment place.number making }
     ensures capacity { (S.content by_id.new).room ≡ (S.content by_id.old).room }
     ensures long { length tables.new.span_meta.now ≡ length tables.old.span_meta.now }
-    ensures rest { (m : Store T) → with_tables tables.new m ≡ with_spans tables.new.spans.now (with_span_meta tables.new.span_meta.now (with_tables tables.old m)) }
+    ensures only { TextsOnly tables.old tables.new }
 {
     let count = settings.defaults;
     fill_defaults(tables.span_meta, place.number, tables.defaults, count);
@@ -174,6 +173,7 @@ pub fn create<T: Text, S: Index, G: Index>(
     requires order { InOrder (passed tables.old segments.old settings.old (S.content by_id.old) (G.content by_segment.old)) }
     ensures memory { SameMemory tables.old tables.new }
     ensures done { Creates T.bytes id segment making (passed tables.old segments.old settings.old (S.content by_id.old) (G.content by_segment.old)) (passed tables.new segments.new settings.new (S.content by_id.new) (G.content by_segment.new)) result }
+    ensures only { TextsOnly tables.old tables.new }
 {
     let place = span_for(tables, by_id, id, settings.next_free)?;
     let seat = seat_for(segments, by_segment, segment)?;

@@ -2,7 +2,7 @@
 ghost use Rattle.tables.specs.Lent.{SameMemory};
 ghost use Rattle.operations.specs.Done.{OnSpanHeld};
 ghost use Rattle.operations.specs.Fields.{pair_written};
-ghost use Rattle.operations.specs.Parts.{HasRows, with_tables};
+ghost use Rattle.operations.specs.Parts.{HasRows, SpansOnly, with_tables};
 
 use crate::inner::rows::insert_below;
 use crate::values::Pair;
@@ -18,6 +18,7 @@ pub fn add_pair<T: Text>(tables: &mut Tables<'_, T>, found: Entry, pair: Pair<T>
     ensures memory { SameMemory tables.old tables.new }
     ensures done { OnSpanHeld T.bytes found.id found.number (pair_written T.bytes pair) (with_tables tables.old) (with_tables tables.new) result }
     ensures rows { HasRows tables.new found.number }
+    ensures only { SpansOnly tables.old tables.new }
 {
     let number = found.number;
     match pair {

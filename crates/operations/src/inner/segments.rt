@@ -4,7 +4,7 @@ ghost use Rattle.book.specs.Book.{origin, text, ◌≔◌};
 ghost use Rattle.tables.specs.Lent.{SameMemory};
 ghost use Rattle.operations.specs.Done.{OnSeat, OnSegmentIfStanding, HeldWithin, SegmentRows};
 ghost use Rattle.operations.specs.Fields.{pair_written};
-ghost use Rattle.operations.specs.Parts.{with_segments, with_seats, with_tables, with_seated};
+ghost use Rattle.operations.specs.Parts.{RowsOnly, with_segments, with_seats, with_tables, with_seated};
 
 use crate::inner::rows::insert_below;
 use crate::values::Pair;
@@ -26,6 +26,7 @@ pub fn add_segment_pair<T: Text, G: Index>(
     requires rows { SegmentRows tables.old segments.old (G.content by_segment.now).held }
     ensures memory { SameMemory tables.old tables.new }
     ensures done { OnSegmentIfStanding T.bytes id (pair_written T.bytes pair) (with_seated tables.old segments.old (G.content by_segment.now).held) (with_seated tables.new segments.new (G.content by_segment.now).held) result }
+    ensures only { RowsOnly tables.old tables.new }
 {
     match by_segment.find(id) {
         Some(number) => pair_at(tables, segments, Entry { id, number }, pair),
@@ -44,6 +45,7 @@ fn pair_at<T: Text>(
     requires number_row { found.number * 16 + 16 ≤ length tables.old.segment_metrics.now }
     ensures memory { SameMemory tables.old tables.new }
     ensures done { OnSeat T.bytes found.id found.number (pair_written T.bytes pair) (λ m. with_segments segments.old (with_tables tables.old m)) (λ m. with_segments segments.new (with_tables tables.new m)) result }
+    ensures only { RowsOnly tables.old tables.new }
 {
     let number = found.number;
     match pair {

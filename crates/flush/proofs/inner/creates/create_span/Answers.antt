@@ -17,8 +17,7 @@ returns-in_err-segment-clause-played g c =
     (c.in_err-segment.ensures.reads (passed c.args.tables.now c.args.segments.now c.args.settings.now (g.S.Index.content c.args.by_id.now) (g.G.Index.content c.args.by_segment.now)))))
 
 pub returns-clause-played : goal.returns-clause-played
-returns-clause-played g c =
-    as_create g.T.Text.bytes (held c.args.buffer.now) (fields_of c.args.extra) c.args.id (λ q. q ≡ c.args.id) _ _ c.args.index.now c.read_creation.new.index _
+returns-clause-played g c = as_create g.T.Text.bytes (held c.args.buffer.now) (fields_of c.args.extra) c.args.id (λ q. q ≡ c.args.id) _ _ c.args.index.now c.read_creation.new.index _
     (read_done g.T.Text.bytes (held c.args.buffer.now) _ c.args.index.now (λ q. q ≡ c.args.id) (read_create (fields_of c.args.extra)) (λ x. make c.args.id x.0 x.1) _ c.read_creation.new.index _ _
     (c.in_ok-segment.ensures.reads (passed c.args.tables.now c.args.segments.now c.args.settings.now (g.S.Index.content c.args.by_id.now) (g.G.Index.content c.args.by_segment.now)))
     (c.create.ensures.done _ (gives g.T.Text.bytes _ c.args.extra c.in_ok-segment.ensures.blank)))

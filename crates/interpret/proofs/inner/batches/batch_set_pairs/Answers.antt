@@ -11,7 +11,6 @@ returns-in_err-count-clause-played g c =
     count-unread g.T.Text.bytes (held c.args.buffer.now) _ c.args.index.now (pair_attribute c.args.kind) c.args.found.id c.read.new.index c.in_err-count.field-0.0 o c.in_err-count.ensures.cases)
 
 pub returns-clause-played : goal.returns-clause-played
-returns-clause-played g c =
-    λ m o own.
+returns-clause-played g c = λ m o own.
     count_done g.T.Text.bytes (held c.args.buffer.now) _ c.args.index.now (pair_attribute c.args.kind) c.args.found.id c.in_ok-count.count c.read.new.index c.set_pairs.new.index _ _ c.in_ok-count.ensures.cases
     (c.set_pairs.ensures.played m o own)

@@ -13,8 +13,7 @@ returns-in_err-pair-clause-played g c =
     (c.in_err-pair.ensures.reads (with_seated c.args.tables.now c.args.segments.now (g.G.Index.content c.args.by_segment.now).held m)))
 
 pub returns-clause-played : goal.returns-clause-played
-returns-clause-played g c =
-    λ m o.
+returns-clause-played g c = λ m o.
     note_done g.T.Text.bytes (held c.args.buffer.now) _ c.args.index.now (pair_attribute c.args.kind) c.args.segment _ c.read_pair.new.index _ _
     (c.in_ok-pair.ensures.reads (with_seated c.args.tables.now c.args.segments.now (g.G.Index.content c.args.by_segment.now).held m))
     (c.add_segment_pair.ensures.done m o)

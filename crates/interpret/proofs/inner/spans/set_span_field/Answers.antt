@@ -12,7 +12,6 @@ returns-in_err-field-clause-played g c =
     attribute_unread g.T.Text.bytes (held c.args.buffer.now) _ c.args.index.now (attribute_of c.args.name) c.args.found.id c.read_field.new.index c.in_err-field.field-0.0 o (c.in_err-field.ensures.reads (with_tables c.args.tables.now m)))
 
 pub returns-clause-played : goal.returns-clause-played
-returns-clause-played g c =
-    λ m o own.
+returns-clause-played g c = λ m o own.
     attribute_done g.T.Text.bytes (held c.args.buffer.now) _ c.args.index.now (attribute_of c.args.name) c.args.found.id _ c.read_field.new.index _ _ (c.in_ok-field.ensures.reads (with_tables c.args.tables.now m))
     (c.set_field.ensures.done (with_tables c.args.tables.now m) o own)

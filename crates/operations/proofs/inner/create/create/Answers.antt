@@ -2,7 +2,7 @@ use Rattle.std.proofs.Common.{◌≡◌, ℕ, Ok, length, sym, ap, subst}
 use Rattle.std.proofs.lemmas.Result.{err_from_is_err_and}
 use Rattle.book.specs.Flush.{make}
 use Rattle.tables.specs.Lent.{passed}
-use Rattle.tables.specs.Store.{Store, store}
+use Rattle.tables.specs.declared.tables.Tables.{Tables}
 use Rattle.operations.specs.Done.{Done, gone}
 use Rattle.operations.specs.Made.{RecordFor, Roomy, Makes, Enters}
 use Rattle.operations.proofs.Taking.{ids-within, seats-within}
@@ -54,11 +54,10 @@ enter_segment-requires-clause-room g c =
     (seats-roomy _ c.requires.order (g.met.S.Index.once c.args.by_id.now) (g.met.G.Index.once c.args.by_segment.now) c.args.segment c.in_ok-seat.seat.number c.in_ok-seat.ensures.1.0)
 
 pub returns-clause-done : goal.returns-clause-done
-returns-clause-done g c =
-    λ ws gives.
+returns-clause-done g c = λ ws gives.
     let m = passed c.args.tables.now c.args.segments.now c.args.settings.now (g.S.Index.content c.args.by_id.now) (g.G.Index.content c.args.by_segment.now) in
-    let end = λ (z : Store g.row.T.Denot). store z.spans z.span_meta z.span_metrics c.enter_segment.new.segments z.segment_meta z.segment_metrics z.strings z.defaults c.make_span.new.settings (g.S.Index.content c.make_span.new.by_id).held (g.S.Index.content c.make_span.new.by_id).room (g.G.Index.content c.enter_segment.new.by_segment).held (g.G.Index.content c.enter_segment.new.by_segment).room in
-    subst (λ z. Done g.T.Text.bytes (make c.args.id c.args.segment ws) (λ q. q ≡ c.args.id) m z (Ok tt)) (sym (ap end (c.make_span.ensures.rest m)))
+    let end = λ (t : Tables g.row.T.Denot). passed t c.enter_segment.new.segments c.make_span.new.settings (g.S.Index.content c.make_span.new.by_id) (g.G.Index.content c.enter_segment.new.by_segment) in
+    subst (λ z. Done g.T.Text.bytes (make c.args.id c.args.segment ws) (λ q. q ≡ c.args.id) m z (Ok tt)) (sym (ap end c.make_span.ensures.only))
     (created m c.requires.order (g.met.S.Index.once c.args.by_id.now) (g.met.G.Index.once c.args.by_segment.now) g.T.Text.bytes c.args.id c.args.segment c.in_ok-place.place.number c.in_ok-seat.seat.number c.args.making
     c.in_ok-place.ensures.1 c.in_ok-seat.ensures.1 c.make_span.new.tables.spans.now c.make_span.new.tables.span_meta.now c.enter_segment.new.segments c.make_span.new.settings
     _ _ _ _ c.make_span.ensures.long c.make_span.ensures.capacity c.enter_segment.ensures.capacity

@@ -4,9 +4,7 @@ use Rattle.operations.proofs.Noting.{done_dropped}
 use Rattle.operations.proofs.inner.segments.add_segment_pair.Goals as goal
 
 pub returns-in-Some-clause-done : goal.returns-in-Some-clause-done
-returns-in-Some-clause-done g c =
-    λ m o. c.pair_at.ensures.done (with_seats (g.G.Index.content c.args.by_segment.now).held m) o (sym c.in-Some.ensures)
+returns-in-Some-clause-done g c = λ m o. c.pair_at.ensures.done (with_seats (g.G.Index.content c.args.by_segment.now).held m) o (sym c.in-Some.ensures)
 
 pub returns-in-None-clause-done : goal.returns-in-None-clause-done
-returns-in-None-clause-done g c =
-    λ m o. done_dropped g.T.Text.bytes _ c.args.id _ o (sym c.in-None.ensures)
+returns-in-None-clause-done g c = λ m o. done_dropped g.T.Text.bytes _ c.args.id _ o (sym c.in-None.ensures)
