@@ -1,5 +1,5 @@
 // Operations on the segment of a live span, which are read and dropped where it is gone.
-ghost use Rattle.std.specs.Prelude.{◌≡◌, ℕ};
+ghost use Rattle.std.specs.Prelude.{◌≡◌, ℕ, length};
 ghost use Rattle.layout.specs.Reads.{held};
 ghost use Rattle.tables.specs.Lent.{SameMemory};
 ghost use Rattle.operations.specs.Done.{HeldWithin, SegmentRows};
@@ -43,7 +43,7 @@ pub fn set_trace_origin<T: Text, G: Index>(
     by_segment: &G,
     segment: u64,
 ) -> Result<()>
-    requires rows { SegmentRows tables.now segments.old (G.content by_segment.now).held }
+    requires within { HeldWithin (G.content by_segment.now).held (length segments.old) }
     ensures played { OnAny T.bytes (note_attribute origin_attribute segment) (held buffer.now) (with_seated tables.now segments.old (G.content by_segment.now).held) (with_seated tables.now segments.new (G.content by_segment.now).held) index.old index.new result }
 {
     let value = buffer.read_string(tables.strings, index)?;

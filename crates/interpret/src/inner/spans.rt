@@ -1,5 +1,5 @@
 // Operations on a live span, whose record has been found.
-ghost use Rattle.std.specs.Prelude.{◌≡◌, ℕ};
+ghost use Rattle.std.specs.Prelude.{◌≡◌, ℕ, ◌<◌, length};
 ghost use Rattle.layout.specs.Reads.{held};
 ghost use Rattle.book.specs.Flush.{set_attribute};
 ghost use Rattle.operations.specs.Parts.{HasRows, SpansOnly, with_tables};
@@ -40,8 +40,7 @@ pub fn set_span_field<T: Text>(
     found: Entry,
     name: FieldName,
 ) -> Result<()>
-    requires rows { HasRows tables.old found.number }
-    ensures memory { SameMemory tables.old tables.new }
+    requires within { found.number < length tables.old.spans.now }
     ensures played { OnLive T.bytes found.id found.number (set_attribute (attribute_of name) found.id) (held buffer.now) (with_tables tables.old) (with_tables tables.new) index.old index.new result }
     ensures only { SpansOnly tables.old tables.new }
 {
