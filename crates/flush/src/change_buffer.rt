@@ -3,10 +3,8 @@ ghost use Rattle.std.specs.Prelude.{◌≡◌};
 ghost use Rattle.book.specs.Flush.{buffer_after};
 ghost use Rattle.tables.specs.Lent.{SameMemory, passed};
 ghost use Rattle.recorder.specs.Answers.{answer};
-ghost use Rattle.recorder.specs.Performs.{Performs};
 ghost use Rattle.operations.specs.Parts.{SharedStay};
-ghost use Rattle.operations.specs.Done.{SpansKept, SegmentsKept};
-ghost use Rattle.flush.specs.Operation.{Created};
+ghost use Rattle.flush.specs.Flushes.{FlushesAll};
 
 use crate::inner::flushing::flush_bytes;
 use index::Index;
@@ -33,9 +31,6 @@ pub fn flush_change_buffer<T: Text, S: Index, G: Index>(
         (passed tables.new segments.new settings.new (S.content by_id.new) (G.content by_segment.new))
         (answer result) }
     ensures after { buffer.new ≡ buffer_after (answer result) buffer.old }
-    ensures order { InOrder (passed tables.old segments.old settings.old (S.content by_id.old) (G.content by_segment.old)) → InOrder (passed tables.new segments.new settings.new (S.content by_id.new) (G.content by_segment.new)) }
-    ensures spans { SpansKept (Created buffer.old) (passed tables.old segments.old settings.old (S.content by_id.old) (G.content by_segment.old)) (passed tables.new segments.new settings.new (S.content by_id.new) (G.content by_segment.new)) }
-    ensures segments { SegmentsKept (passed tables.old segments.old settings.old (S.content by_id.old) (G.content by_segment.old)) (passed tables.new segments.new settings.new (S.content by_id.new) (G.content by_segment.new)) }
     ensures shared { SharedStay tables.old tables.new }
 {
     check_order(tables, segments, settings, by_id, by_segment)?;

@@ -4,7 +4,7 @@ ghost use Rattle.layout.specs.Reads.{held};
 ghost use Rattle.book.specs.Actions.{times};
 ghost use Rattle.book.specs.Flush.{perform as performs, operation as one-operation, operations as all-operations};
 ghost use Rattle.tables.specs.InOrder.{InOrder};
-ghost use Rattle.tables.specs.Lent.{passed};
+ghost use Rattle.tables.specs.Lent.{SameMemory, passed};
 ghost use Rattle.operations.specs.Parts.{SharedStay};
 ghost use Rattle.interpret.specs.Played.{Played};
 ghost use Rattle.book.specs.Flush.{buffer_after};

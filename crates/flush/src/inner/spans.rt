@@ -1,6 +1,7 @@
 // Operations on a live span, by their kind.
 ghost use Rattle.std.specs.Prelude.{ℕ};
 ghost use Rattle.layout.specs.Reads.{held};
+ghost use Rattle.tables.specs.Lent.{SameMemory};
 ghost use Rattle.operations.specs.Parts.{HasRows, SpansOnly, with_tables};
 ghost use Rattle.interpret.specs.Played.{OnLive};
 ghost use Rattle.flush.specs.Operation.{span_act};

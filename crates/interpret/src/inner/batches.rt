@@ -3,6 +3,7 @@ ghost use Rattle.std.specs.Prelude.{◌≡◌, ℕ};
 ghost use Rattle.layout.specs.Reads.{held};
 ghost use Rattle.book.specs.Actions.{times};
 ghost use Rattle.book.specs.Flush.{set_attribute};
+ghost use Rattle.tables.specs.Lent.{SameMemory};
 ghost use Rattle.operations.specs.Parts.{HasRows, SpansOnly, with_tables};
 ghost use Rattle.interpret.specs.Attributes.{pair_attribute};
 ghost use Rattle.interpret.specs.Played.{OnLive, set_counted};

@@ -3,9 +3,9 @@ ghost use Rattle.std.specs.Prelude.{◌≡◌, ℕ, ◌+◌, ◌*◌, ◌<◌, �
 ghost use Rattle.std.specs.List.{slice_get};
 ghost use Rattle.vec_map.specs.Tables.{row, OthersStay};
 ghost use Rattle.tables.specs.InOrder.{InOrder};
-ghost use Rattle.tables.specs.Lent.{passed};
+ghost use Rattle.tables.specs.Lent.{SameMemory, passed};
 ghost use Rattle.operations.specs.Done.{gone};
-ghost use Rattle.operations.specs.Parts.{TextsOnly, with_texts};
+ghost use Rattle.operations.specs.Parts.{TextsOnly};
 ghost use Rattle.operations.specs.Made.{SameSettings, made_span, new_segment, Roomy, Puts, RecordFor, CanGrow, Makes, Enters, Creates};
 
 use crate::inner::places::{Place, seat_for, span_for};

@@ -19,6 +19,7 @@ returns-in_err-check_order g c =
         segments = records-same _ _ _ _ _ _;
       };
       after = refl;
+      shared = record { strings = refl; defaults = refl };
     })
 
 pub returns : goal.returns
@@ -34,4 +35,5 @@ returns g c = record {
     segments = c.flush_bytes.ensures.flushes.segments_kept;
   };
   after = c.flush_bytes.ensures.after;
+  shared = c.flush_bytes.ensures.shared;
 }

@@ -2,6 +2,7 @@ use Rattle.std.proofs.Common.{Ok}
 use Rattle.layout.specs.Reads.{held}
 use Rattle.book.specs.Actions.{times}
 use Rattle.book.specs.Flush.{set_attribute}
+use Rattle.tables.specs.Lent.{SameMemory}
 use Rattle.operations.specs.Parts.{HasRows, SpansOnly, with_tables}
 use Rattle.interpret.specs.Attributes.{pair_attribute}
 use Rattle.interpret.specs.Played.{OnLive}

@@ -1,28 +1,35 @@
-use Rattle.std.proofs.Common.{sym, refl, subst, arith, length-set}
+use Rattle.std.proofs.Common.{rules, sym, refl, subst, arith, length-set}
 use Rattle.std.specs.Option.{ok_or}
 use Rattle.std.proofs.lemmas.Option.{slice_get-get_or}
 use Rattle.refusals.specs.declared.ChangeBufferError.TheVariants.{RowFull}
 use Rattle.book.specs.Book.{meta, metric}
 use Rattle.book.specs.Flush.{write_span}
+use Rattle.tables.specs.Lent.{SameMemory}
 use Rattle.operations.specs.Parts.{HasRows, SpansOnly, with_tables}
 use Rattle.operations.specs.Done.{Done, NoneMade}
 use Rattle.operations.proofs.Writing.{done_meta, done_metric}
 use Rattle.operations.proofs.inner.pairs.add_pair.Goals.{in-Meta, in-Metric}
 use Rattle.operations.proofs.inner.pairs.add_pair.Goals as goal
 
-pub returns : goal.returns
-returns g c = record {
-  only = elim c.match-pair.branch [
+pub returns-clause-only : goal.returns-clause-only
+returns-clause-only g c =
+    elim c.match-pair.branch [
     | in-Meta w ↦ subst (λ t. SpansOnly c.args.tables.now t) (sym w.tables-is) refl
     | in-Metric w ↦ subst (λ t. SpansOnly c.args.tables.now t) (sym w.tables-is) refl
-  ];
-  rows = elim c.match-pair.branch [
+  ]
+
+pub returns-clause-rows : goal.returns-clause-rows
+returns-clause-rows g c =
+    elim c.match-pair.branch [
     | in-Meta w ↦
         subst (λ t. HasRows t c.args.found.number) (sym w.tables-is) (let h = c.requires.rows in let l = w.insert_below.auto.table in record { within = simp length-set h.within; text_row = omega (arith, l); number_row = h.number_row })
     | in-Metric w ↦
         subst (λ t. HasRows t c.args.found.number) (sym w.tables-is) (let h = c.requires.rows in let l = w.insert_below-in-Metric.auto.table in record { within = simp length-set h.within; text_row = h.text_row; number_row = omega (arith, l) })
-  ];
-  done = λ m o own.
+  ]
+
+pub returns-clause-done : goal.returns-clause-done
+returns-clause-done g c =
+    λ m o own.
       let b = g.T.Text.bytes in
       let f = c.args.found in
       let t = c.args.tables.now in
@@ -37,5 +44,10 @@ returns g c = record {
             (subst (λ t'. Done b (write_span f.id (metric (b w.in-Metric.key) w.in-Metric.bits)) NoneMade (with_tables t m) (with_tables t' m) (ok_or w.insert_below-in-Metric.result (RowFull f.id))) (sym w.tables-is)
             (done_metric (with_tables t m) o f.id f.number own _ (slice_get-get_or t.spans.now f.number w.index-tables-number-in-Metric.result c.requires.rows.within) b w.in-Metric.key w.in-Metric.bits
             w.insert_below-in-Metric.new.table w.insert_below-in-Metric.new.head w.insert_below-in-Metric.result w.insert_below-in-Metric.auto.table w.insert_below-in-Metric.ensures.cases))
-      ];
-}
+      ]
+
+pub returns-clause-memory : goal.returns-clause-memory
+returns-clause-memory g c = elim c.match-pair.branch [
+  | in-Meta w ↦ subst (SameMemory c.args.tables.now) (sym w.tables-is) (search rules)
+  | in-Metric w ↦ subst (SameMemory c.args.tables.now) (sym w.tables-is) (search rules)
+]

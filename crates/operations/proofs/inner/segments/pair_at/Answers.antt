@@ -1,22 +1,26 @@
-use Rattle.std.proofs.Common.{get_or, set, sym, refl, subst}
+use Rattle.std.proofs.Common.{rules, get_or, set, sym, refl, subst}
 use Rattle.std.specs.Option.{ok_or}
 use Rattle.std.proofs.lemmas.Option.{slice_get-get_or}
 use Rattle.refusals.specs.declared.ChangeBufferError.TheVariants.{RowFull}
 use Rattle.book.specs.Book.{meta, metric}
 use Rattle.book.specs.Flush.{write_segment}
+use Rattle.tables.specs.Lent.{SameMemory}
 use Rattle.operations.specs.Parts.{RowsOnly, with_segments, with_tables}
 use Rattle.operations.specs.Done.{Done, NoneMade}
 use Rattle.operations.proofs.Noting.{with_meta_head, with_metrics_head, done_meta, done_metric}
 use Rattle.operations.proofs.inner.segments.pair_at.Goals.{in-Meta, in-Metric}
 use Rattle.operations.proofs.inner.segments.pair_at.Goals as goal
 
-pub returns : goal.returns
-returns g c = record {
-  only = elim c.match-pair.branch [
+pub returns-clause-only : goal.returns-clause-only
+returns-clause-only g c =
+    elim c.match-pair.branch [
     | in-Meta w ↦ subst (λ t. RowsOnly c.args.tables.now t) (sym w.tables-is) refl
     | in-Metric w ↦ subst (λ t. RowsOnly c.args.tables.now t) (sym w.tables-is) refl
-  ];
-  done = λ m o own.
+  ]
+
+pub returns-clause-done : goal.returns-clause-done
+returns-clause-done g c =
+    λ m o own.
       let b = g.T.Text.bytes in
       let f = c.args.found in
       let ys = c.args.segments.now in
@@ -34,5 +38,10 @@ returns g c = record {
             (subst (λ t'. Done b (write_segment f.id (metric (b w.in-Metric.key) w.in-Metric.bits)) NoneMade m₀ (with_segments (set ys f.number (with_metrics_head w.insert_below-in-Metric.new.head (get_or ys f.number w.index-segments-number-in-Metric.result))) (with_tables t' m)) (ok_or w.insert_below-in-Metric.result (RowFull f.id))) (sym w.tables-is)
             (done_metric m₀ o f.id f.number own _ (slice_get-get_or ys f.number w.index-segments-number-in-Metric.result c.requires.within) b w.in-Metric.key w.in-Metric.bits
             w.insert_below-in-Metric.new.table w.insert_below-in-Metric.new.head w.insert_below-in-Metric.result w.insert_below-in-Metric.auto.table w.insert_below-in-Metric.ensures.cases)))
-      ];
-}
+      ]
+
+pub returns-clause-memory : goal.returns-clause-memory
+returns-clause-memory g c = elim c.match-pair.branch [
+  | in-Meta w ↦ subst (SameMemory c.args.tables.now) (sym w.tables-is) (search rules)
+  | in-Metric w ↦ subst (SameMemory c.args.tables.now) (sym w.tables-is) (search rules)
+]
