@@ -6,7 +6,7 @@ use small_index::segment::SmallSegmentMap;
 use small_index::segment::indexed::three_stands_first;
 use std::alloc::Global;
 
-// A call of an index, with the answer that it must give.
+// A call of an index, with the answer that it must give: a list of them runs at an index of any kind.
 #[derive(Clone, Copy)]
 pub enum Step {
     Put(u64, usize, Option<usize>),

@@ -39,7 +39,7 @@ impl From<AllocError> for MakeError {
     }
 }
 
-// No id stands twice, a search reaches each, and `taken` of the places hold one.
+// No id stands twice, a search reaches each, and `taken` of the places hold one: counted, so that `count` need not look at all.
 #[derive(Drop)]
 pub struct HashedIndex {
     places: Vec<Option<Entry>>,

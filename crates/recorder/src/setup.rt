@@ -29,6 +29,7 @@ pub fn set_up<T: Text, S: Index, G: Index>(
         (passed tables.new segments.new settings.new (S.content by_id.new) (G.content by_segment.new))
         result }
 {
+    // Another question than that of the other calls, and asked here alone.
     if !tables_sized(tables, segments, settings, by_id, by_segment) {
         return Err(ChangeBufferError::OutOfOrder);
     }

@@ -5,7 +5,7 @@ pub struct Settings<T> {
     pub service: T,
     pub language: T,
     pub pid: u32,
-    // How many of the default pairs count.
+    // How many of the default pairs count: their table is lent memory of a fixed length.
     pub defaults: usize,
     // Where to look first for a free record: a hint, which is tested when it is used.
     pub next_free: usize,

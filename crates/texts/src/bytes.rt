@@ -9,7 +9,7 @@ pub fn byte_of(bytes: &[u8], place: usize) -> Option<u8>
     bytes.get(place).copied()
 }
 
-// Whether both slices hold the same bytes.
+// Whether both slices hold the same bytes: `==`, under the name by which texts are compared.
 pub fn same_bytes(a: &[u8], b: &[u8]) -> bool
     ensures { IsTrue result ↔ (a.now ≡ b.now) }
 {

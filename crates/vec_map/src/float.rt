@@ -5,7 +5,7 @@ ghost use Rattle.vec_map.specs.Floats.{Patterns};
 
 use std::num::{f64_from_bits_with_nan, f64_to_bits_with_nan};
 
-// The bits of a float.
+// The bits of a float: std's conversion, and its converse below, under names that say which bits a pair has.
 pub fn float_bits(x: f64) -> u64
     ensures { result ≡ to_bits binary64 x }
 {

@@ -7,7 +7,8 @@ use crate::VecMap;
 use crate::head::Head;
 use crate::key::Key;
 
-// One pair more in a row. A full row hands the pair back.
+// One pair more in a row. A full row hands the pair back. (This and `dedup_row` open the map, change it and keep its head, each
+// for itself: taken as a closure the change would stand in no clause.)
 pub fn insert_row<K: Key, V: Copy>(
     row: &mut [(K, V)],
     head: &mut Head,
@@ -31,6 +32,9 @@ pub fn dedup_row<K: Key, V: Copy>(row: &mut [(K, V)], head: &mut Head)
     map.dedup();
     *head = map.head();
 }
+
+// The table goes with its width, here and below: a struct over both would need a clause at each change that it is the same
+// memory still.
 
 // Where a row begins, none where it is not wholly in a table of `len` pairs.
 fn row_start(width: usize, at: usize, len: usize) -> Option<usize>
