@@ -5,9 +5,10 @@ ghost use Rattle.book.specs.Maps.{find};
 ghost use Rattle.book.specs.Flush.{table};
 ghost use Rattle.flush.specs.Operation.{meaning};
 
-use interpret::attributes::{FieldName, PairKind};
+use interpret::attributes::FieldName;
 use interpret::creation::Extra;
 use layout::operation::OpCode;
+use operations::values::PairKind;
 
 // An operation on a live span.
 #[derive(Clone, Copy, PartialEq, Eq, Debug)]

@@ -14,8 +14,8 @@ use Rattle.tables.specs.Shows.{Shows}
 use Rattle.recorder.specs.Answers.{refusal}
 use Rattle.operations.specs.Done.{ending, Done, NoneMade, gone}
 use Rattle.operations.proofs.Keeping.{records-same}
-use Rattle.interpret.specs.declared.attributes.PairKind.{PairKind}
-use Rattle.interpret.specs.declared.attributes.PairKind.TheVariants.{Meta, Metric}
+use Rattle.operations.specs.declared.values.PairKind.{PairKind}
+use Rattle.operations.specs.declared.values.PairKind.TheVariants.{Meta, Metric}
 use Rattle.interpret.specs.Attributes.{pair_attribute}
 use Rattle.interpret.specs.Played.{Played, note_attribute, set_counted}
 use Rattle.interpret.proofs.Reading.{number_reads, number-misses}

@@ -3,8 +3,8 @@ use Rattle.book.specs.Book.{service, name, resource, type, start, duration, erro
 use Rattle.book.specs.Flush.{Attribute, ◌by◌, S, I, i32, S_S, S_F}
 use Rattle.interpret.specs.declared.attributes.FieldName.{FieldName}
 use Rattle.interpret.specs.declared.attributes.FieldName.TheVariants.{Service, Resource, Kind, Name, Error, Start, Duration}
-use Rattle.interpret.specs.declared.attributes.PairKind.{PairKind}
-use Rattle.interpret.specs.declared.attributes.PairKind.TheVariants.{Meta, Metric}
+use Rattle.operations.specs.declared.values.PairKind.{PairKind}
+use Rattle.operations.specs.declared.values.PairKind.TheVariants.{Meta, Metric}
 
 abbrev pub attribute_of : FieldName → Attribute
 attribute_of Service = service by S

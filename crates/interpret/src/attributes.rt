@@ -12,10 +12,3 @@ pub enum FieldName {
     Start,
     Duration,
 }
-
-// A pair of two texts, or of a text and a number.
-#[derive(Clone, Copy, PartialEq, Eq, Debug)]
-pub enum PairKind {
-    Meta,
-    Metric,
-}

@@ -1,14 +1,14 @@
 // What operations write, read from a buffer.
-ghost use Rattle.std.specs.Prelude.{◌≡◌, ℕ};
+ghost use Rattle.std.specs.Prelude.{◌≡◌, ℕ, IfOk};
 ghost use Rattle.layout.specs.Reads.{held};
 ghost use Rattle.book.specs.Flush.{read_attribute};
-ghost use Rattle.operations.specs.Fields.{field_written, pair_written};
+ghost use Rattle.operations.specs.Fields.{field_written, kind_of, pair_written};
 ghost use Rattle.interpret.specs.Attributes.{attribute_of, pair_attribute};
 ghost use Rattle.interpret.specs.Played.{ReadsAs};
 
-use crate::attributes::{FieldName, PairKind};
+use crate::attributes::FieldName;
 use layout::buffer::ChangeBuffer;
-use operations::values::{Pair, SpanField};
+use operations::values::{Pair, PairKind, SpanField};
 use refusals::Result;
 use tables::tables::Tables;
 use texts::Text;
@@ -23,6 +23,7 @@ pub fn read_pair<T: Text>(
     kind: PairKind,
 ) -> Result<Pair<T>>
     ensures reads { ReadsAs T.bytes (read_attribute (pair_attribute kind)) tables.now.strings.now (held buffer.now) index.old index.new (pair_written T.bytes) result }
+    ensures kind { IfOk result (λ p. kind_of p ≡ kind) }
 {
     let key = buffer.read_string(tables.strings, index)?;
     match kind {

@@ -1,12 +1,11 @@
 -- What every operation promises: the order stays, the book's action ends so in a book that is shown then, records are kept,
 -- and a row's mark moves only where a pair is inserted or the record is made.
-use Rattle.std.specs.Prelude.{◌≡◌, ℕ, ◌*◌, ◌<◌, Bool, true, false, not, ◌⊎◌, List, length, Some, None, Ok, Err, Result}
+use Rattle.std.specs.Prelude.{◌≡◌, ℕ, ◌<◌, Bool, true, false, not, ◌⊎◌, List, length, Some, None, Ok, Err, Result}
 use Rattle.std.specs.List.{slice_get}
 use Rattle.vec_map.specs.declared.head.Head.{Head}
 use Rattle.index.specs.declared.entry.Entry.{Entry}
 use Rattle.index.specs.Held.{at}
 use Rattle.refusals.specs.declared.ChangeBufferError.{ChangeBufferError}
-use Rattle.book.specs.Limits.{segment_text_limit, segment_number_limit}
 use Rattle.book.specs.Book.{Text, Writing}
 use Rattle.book.specs.Actions.{Act}
 use Rattle.book.specs.Acts.{Ending, reached, turned_down, Acts}
@@ -17,6 +16,8 @@ use Rattle.tables.specs.Store.{Store, free, stands}
 use Rattle.tables.specs.InOrder.{InOrder}
 use Rattle.tables.specs.Shows.{Shows}
 use Rattle.recorder.specs.Answers.{refusal}
+use Rattle.operations.specs.declared.values.PairKind.{PairKind}
+use Rattle.operations.specs.Parts.{HasSegmentRow}
 
 -- ---- records and the marks of their rows
 
@@ -93,8 +94,6 @@ module _ {T : Type 0} (bytes : T → Text) where
 abbrev pub HeldWithin : List Entry → ℕ → Type 0
 HeldWithin es n = (id r : ℕ) → at es id ≡ Some r → r < n
 
--- every id of a segment is held for one of the records, and the tables have both rows of each
-pub record SegmentRows {T : Type 0} (t : Tables T) (ys : List (Segment T)) (es : List Entry) : Type 0 where
-  pub within : HeldWithin es (length ys)
-  pub text_rows : length t.segment_meta.now ≡ length ys * segment_text_limit
-  pub number_rows : length t.segment_metrics.now ≡ length ys * segment_number_limit
+-- every id of a segment is held for one of the records, and its row for pairs of this kind is there
+abbrev pub SegmentRows : {T : Type 0} → PairKind → Tables T → List (Segment T) → List Entry → Type 0
+SegmentRows kind t ys es = (id r : ℕ) → at es id ≡ Some r → HasSegmentRow kind t ys r

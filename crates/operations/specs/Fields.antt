@@ -3,6 +3,8 @@ use Rattle.book.specs.Book.{Text, service, name, resource, type, start, duration
 use Rattle.tables.specs.declared.span.Span.{Span}
 use Rattle.operations.specs.declared.values.Pair.{Pair}
 use Rattle.operations.specs.declared.values.Pair.TheVariants.{Meta, Metric}
+use Rattle.operations.specs.declared.values.PairKind.{PairKind}
+use Rattle.operations.specs.declared.values.PairKind.TheVariants as kind
 use Rattle.operations.specs.declared.values.SpanField.{SpanField}
 use Rattle.operations.specs.declared.values.SpanField.TheVariants.{Service, Resource, Kind, Name, Error, Start, Duration}
 
@@ -29,3 +31,7 @@ module _ {T : Type 0} where
   abbrev pub pair_written : (T → Text) → Pair T → Writing
   pair_written bytes (Meta k v) = meta (bytes k) (bytes v)
   pair_written bytes (Metric k n) = metric (bytes k) n
+
+  abbrev pub kind_of : Pair T → PairKind
+  kind_of (Meta k v) = kind.Meta
+  kind_of (Metric k n) = kind.Metric

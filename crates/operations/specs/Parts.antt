@@ -2,11 +2,13 @@
 use Rattle.std.specs.Prelude.{◌≡◌, ℕ, ◌+◌, ◌*◌, ◌<◌, ◌≤◌, List, length}
 use Rattle.std.specs.Borrow.{MutBor}
 use Rattle.index.specs.declared.entry.Entry.{Entry}
-use Rattle.book.specs.Limits.{span_text_row, span_number_row}
+use Rattle.book.specs.Limits.{span_text_row, span_number_row, segment_text_limit, segment_number_limit}
 use Rattle.tables.specs.declared.span.Span.{Span}
 use Rattle.tables.specs.declared.segment.Segment.{Segment}
 use Rattle.tables.specs.declared.tables.Tables.{Tables}
 use Rattle.tables.specs.Store.{Store, store}
+use Rattle.operations.specs.declared.values.PairKind.{PairKind}
+use Rattle.operations.specs.declared.values.PairKind.TheVariants.{Meta, Metric}
 
 module _ {T : Type 0} where
   -- the span records, and their rows
@@ -62,8 +64,22 @@ module _ {T : Type 0} where
     pub strings : new.strings ≡ old.strings
     pub defaults : new.defaults ≡ old.defaults
 
-  -- record r lies in the span tables with both its rows
-  pub record HasRows (t : Tables T) (r : ℕ) : Type 0 where
+  -- the tables have row r of a span's pairs of this kind
+  abbrev pub SpanRow : PairKind → Tables T → ℕ → Type 0
+  SpanRow Meta t r = r * span_text_row + span_text_row ≤ length t.span_meta.now
+  SpanRow Metric t r = r * span_number_row + span_number_row ≤ length t.span_metrics.now
+
+  -- and row r of a segment's pairs of this kind
+  abbrev pub SegmentRow : PairKind → Tables T → ℕ → Type 0
+  SegmentRow Meta t r = r * segment_text_limit + segment_text_limit ≤ length t.segment_meta.now
+  SegmentRow Metric t r = r * segment_number_limit + segment_number_limit ≤ length t.segment_metrics.now
+
+  -- record r of the spans is there, with its row for pairs of this kind
+  pub record HasRow (kind : PairKind) (t : Tables T) (r : ℕ) : Type 0 where
     pub within : r < length t.spans.now
-    pub text_row : r * span_text_row + span_text_row ≤ length t.span_meta.now
-    pub number_row : r * span_number_row + span_number_row ≤ length t.span_metrics.now
+    pub row : SpanRow kind t r
+
+  -- and record r of the segments
+  pub record HasSegmentRow (kind : PairKind) (t : Tables T) (ys : List (Segment T)) (r : ℕ) : Type 0 where
+    pub within : r < length ys
+    pub row : SegmentRow kind t r

@@ -13,6 +13,13 @@ pub enum SpanField<T> {
     Duration(i64),
 }
 
+// A pair of two texts, or of a text and a number.
+#[derive(Clone, Copy, PartialEq, Eq, Debug)]
+pub enum PairKind {
+    Meta,
+    Metric,
+}
+
 // A pair that an operation adds to a row. The number of a number pair goes by its bits.
 #[derive(Drop)]
 pub enum Pair<T> {

@@ -4,14 +4,14 @@ ghost use Rattle.layout.specs.Reads.{held};
 ghost use Rattle.book.specs.Actions.{times};
 ghost use Rattle.book.specs.Flush.{set_attribute};
 ghost use Rattle.tables.specs.Lent.{SameMemory};
-ghost use Rattle.operations.specs.Parts.{HasRows, SpansOnly, with_tables};
+ghost use Rattle.operations.specs.Parts.{HasRow, SpansOnly, with_tables};
 ghost use Rattle.interpret.specs.Attributes.{pair_attribute};
 ghost use Rattle.interpret.specs.Played.{OnLive, set_counted};
 
-use crate::attributes::PairKind;
 use crate::inner::spans::set_pair;
 use index::entry::Entry;
 use layout::buffer::ChangeBuffer;
+use operations::values::PairKind;
 use refusals::Result;
 use tables::tables::Tables;
 use texts::Text;
@@ -23,10 +23,11 @@ pub fn batch_set_pairs<T: Text>(
     found: Entry,
     kind: PairKind,
 ) -> Result<()>
-    requires rows { HasRows tables.old found.number }
+    requires row { HasRow kind tables.old found.number }
     ensures memory { SameMemory tables.old tables.new }
     ensures played { OnLive T.bytes found.id found.number (set_counted (pair_attribute kind) found.id) (held buffer.now) (with_tables tables.old) (with_tables tables.new) index.old index.new result }
     ensures only { SpansOnly tables.old tables.new }
+    ensures row { HasRow kind tables.new found.number }
 {
     let count: u32 = buffer.read(index)?;
     set_pairs(buffer, index, tables, found, kind, count)
@@ -40,10 +41,11 @@ fn set_pairs<T: Text>(
     kind: PairKind,
     count: u32,
 ) -> Result<()>
-    requires rows { HasRows tables.old found.number }
+    requires row { HasRow kind tables.old found.number }
     ensures memory { SameMemory tables.old tables.new }
     ensures played { OnLive T.bytes found.id found.number (times count (set_attribute (pair_attribute kind) found.id)) (held buffer.now) (with_tables tables.old) (with_tables tables.new) index.old index.new result }
     ensures only { SpansOnly tables.old tables.new }
+    ensures row { HasRow kind tables.new found.number }
 {
     for _ in 0..count {
         set_pair(buffer, index, tables, found, kind)?;

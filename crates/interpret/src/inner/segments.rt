@@ -7,11 +7,11 @@ ghost use Rattle.operations.specs.Parts.{RowsOnly, with_seated};
 ghost use Rattle.interpret.specs.Attributes.{origin_attribute, pair_attribute};
 ghost use Rattle.interpret.specs.Played.{note_attribute, OnAny};
 
-use crate::attributes::PairKind;
 use crate::operands::read_pair;
 use index::Index;
 use layout::buffer::ChangeBuffer;
 use operations::inner::segments::{add_segment_pair, set_origin};
+use operations::values::PairKind;
 use refusals::Result;
 use tables::segment::Segment;
 use tables::tables::Tables;
@@ -26,7 +26,7 @@ pub fn set_trace_pair<T: Text, G: Index>(
     segment: u64,
     kind: PairKind,
 ) -> Result<()>
-    requires rows { SegmentRows tables.old segments.old (G.content by_segment.now).held }
+    requires rows { SegmentRows kind tables.old segments.old (G.content by_segment.now).held }
     ensures memory { SameMemory tables.old tables.new }
     ensures played { OnAny T.bytes (note_attribute (pair_attribute kind) segment) (held buffer.now) (with_seated tables.old segments.old (G.content by_segment.now).held) (with_seated tables.new segments.new (G.content by_segment.now).held) index.old index.new result }
     ensures only { RowsOnly tables.old tables.new }

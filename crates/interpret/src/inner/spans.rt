@@ -3,16 +3,17 @@ ghost use Rattle.std.specs.Prelude.{◌≡◌, ℕ, ◌<◌, length};
 ghost use Rattle.layout.specs.Reads.{held};
 ghost use Rattle.book.specs.Flush.{set_attribute};
 ghost use Rattle.tables.specs.Lent.{SameMemory};
-ghost use Rattle.operations.specs.Parts.{HasRows, SpansOnly, with_tables};
+ghost use Rattle.operations.specs.Parts.{HasRow, SpansOnly, with_tables};
 ghost use Rattle.interpret.specs.Attributes.{attribute_of, pair_attribute};
 ghost use Rattle.interpret.specs.Played.{OnLive};
 
-use crate::attributes::{FieldName, PairKind};
+use crate::attributes::FieldName;
 use crate::operands::{read_field, read_pair};
 use index::entry::Entry;
 use layout::buffer::ChangeBuffer;
 use operations::inner::fields::set_field;
 use operations::inner::pairs::add_pair;
+use operations::values::PairKind;
 use refusals::Result;
 use tables::tables::Tables;
 use texts::Text;
@@ -24,11 +25,11 @@ pub fn set_pair<T: Text>(
     found: Entry,
     kind: PairKind,
 ) -> Result<()>
-    requires rows { HasRows tables.old found.number }
+    requires row { HasRow kind tables.old found.number }
     ensures memory { SameMemory tables.old tables.new }
     ensures played { OnLive T.bytes found.id found.number (set_attribute (pair_attribute kind) found.id) (held buffer.now) (with_tables tables.old) (with_tables tables.new) index.old index.new result }
     ensures only { SpansOnly tables.old tables.new }
-    ensures rows { HasRows tables.new found.number }
+    ensures row { HasRow kind tables.new found.number }
 {
     let pair = read_pair(buffer, index, tables, kind)?;
     add_pair(tables, found, pair)

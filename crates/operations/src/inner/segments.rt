@@ -1,10 +1,10 @@
 // Writings to the segment of a live span, which are dropped where it is gone.
-ghost use Rattle.std.specs.Prelude.{◌≡◌, ℕ, ◌+◌, ◌*◌, ◌<◌, ◌≤◌, length, Ok};
+ghost use Rattle.std.specs.Prelude.{◌≡◌, ℕ, ◌<◌, length, Ok};
 ghost use Rattle.book.specs.Book.{origin, text, ◌≔◌};
 ghost use Rattle.tables.specs.Lent.{SameMemory};
 ghost use Rattle.operations.specs.Done.{OnSeat, OnSegmentIfStanding, HeldWithin, SegmentRows};
-ghost use Rattle.operations.specs.Fields.{pair_written};
-ghost use Rattle.operations.specs.Parts.{RowsOnly, with_segments, with_seats, with_tables, with_seated};
+ghost use Rattle.operations.specs.Fields.{kind_of, pair_written};
+ghost use Rattle.operations.specs.Parts.{HasSegmentRow, RowsOnly, with_segments, with_seats, with_tables, with_seated};
 
 use crate::inner::rows::insert_below;
 use crate::values::Pair;
@@ -23,7 +23,7 @@ pub fn add_segment_pair<T: Text, G: Index>(
     id: u64,
     pair: Pair<T>,
 ) -> Result<()>
-    requires rows { SegmentRows tables.old segments.old (G.content by_segment.now).held }
+    requires rows { SegmentRows (kind_of pair) tables.old segments.old (G.content by_segment.now).held }
     ensures memory { SameMemory tables.old tables.new }
     ensures done { OnSegmentIfStanding T.bytes id (pair_written T.bytes pair) (with_seated tables.old segments.old (G.content by_segment.now).held) (with_seated tables.new segments.new (G.content by_segment.now).held) result }
     ensures only { RowsOnly tables.old tables.new }
@@ -40,9 +40,7 @@ fn pair_at<T: Text>(
     found: Entry,
     pair: Pair<T>,
 ) -> Result<()>
-    requires within { found.number < length segments.old }
-    requires text_row { found.number * 32 + 32 ≤ length tables.old.segment_meta.now }
-    requires number_row { found.number * 16 + 16 ≤ length tables.old.segment_metrics.now }
+    requires row { HasSegmentRow (kind_of pair) tables.old segments.old found.number }
     ensures memory { SameMemory tables.old tables.new }
     ensures done { OnSeat T.bytes found.id found.number (pair_written T.bytes pair) (λ m. with_segments segments.old (with_tables tables.old m)) (λ m. with_segments segments.new (with_tables tables.new m)) result }
     ensures only { RowsOnly tables.old tables.new }

@@ -5,7 +5,9 @@ use Rattle.refusals.specs.declared.ChangeBufferError.TheVariants.{RowFull}
 use Rattle.book.specs.Book.{meta, metric}
 use Rattle.book.specs.Flush.{write_span}
 use Rattle.tables.specs.Lent.{SameMemory}
-use Rattle.operations.specs.Parts.{HasRows, SpansOnly, with_tables}
+use Rattle.operations.specs.declared.values.PairKind.TheVariants as kind
+use Rattle.operations.specs.Fields.{kind_of}
+use Rattle.operations.specs.Parts.{HasRow, SpansOnly, with_tables}
 use Rattle.operations.specs.Done.{Done, NoneMade}
 use Rattle.operations.proofs.Writing.{done_meta, done_metric}
 use Rattle.operations.proofs.inner.pairs.add_pair.Goals.{in-Meta, in-Metric}
@@ -18,13 +20,16 @@ returns-clause-only g c =
     | in-Metric w ↦ subst (λ t. SpansOnly c.args.tables.now t) (sym w.tables-is) refl
   ]
 
-pub returns-clause-rows : goal.returns-clause-rows
-returns-clause-rows g c =
+pub returns-clause-row : goal.returns-clause-row
+returns-clause-row g c =
+    let f = c.args.found in
     elim c.match-pair.branch [
     | in-Meta w ↦
-        subst (λ t. HasRows t c.args.found.number) (sym w.tables-is) (let h = c.requires.rows in let l = w.insert_below.auto.table in record { within = simp length-set h.within; text_row = omega (arith, l); number_row = h.number_row })
+        let h = subst (λ p. HasRow (kind_of p) c.args.tables.now f.number) w.in-Meta.is c.requires.row in
+        rw w.in-Meta.is (subst (λ t. HasRow kind.Meta t f.number) (sym w.tables-is) (let l = w.insert_below.auto.table in record { within = simp length-set h.within; row = omega (arith, l) }))
     | in-Metric w ↦
-        subst (λ t. HasRows t c.args.found.number) (sym w.tables-is) (let h = c.requires.rows in let l = w.insert_below-in-Metric.auto.table in record { within = simp length-set h.within; text_row = h.text_row; number_row = omega (arith, l) })
+        let h = subst (λ p. HasRow (kind_of p) c.args.tables.now f.number) w.in-Metric.is c.requires.row in
+        rw w.in-Metric.is (subst (λ t. HasRow kind.Metric t f.number) (sym w.tables-is) (let l = w.insert_below-in-Metric.auto.table in record { within = simp length-set h.within; row = omega (arith, l) }))
   ]
 
 pub returns-clause-done : goal.returns-clause-done
@@ -37,12 +42,12 @@ returns-clause-done g c =
         | in-Meta w ↦
             rw (w.in-Meta.is, c.ok_or.ensures.value, w.ok_or-is)
             (subst (λ t'. Done b (write_span f.id (meta (b w.in-Meta.key) (b w.in-Meta.value))) NoneMade (with_tables t m) (with_tables t' m) (ok_or w.insert_below.result (RowFull f.id))) (sym w.tables-is)
-            (done_meta (with_tables t m) o f.id f.number own _ (slice_get-get_or t.spans.now f.number w.index-tables-number.result c.requires.rows.within) b w.in-Meta.key w.in-Meta.value
+            (done_meta (with_tables t m) o f.id f.number own _ (slice_get-get_or t.spans.now f.number w.index-tables-number.result c.requires.row.within) b w.in-Meta.key w.in-Meta.value
             w.insert_below.new.table w.insert_below.new.head w.insert_below.result w.insert_below.auto.table w.insert_below.ensures.cases))
         | in-Metric w ↦
             rw (w.in-Metric.is, c.ok_or.ensures.value, w.ok_or-is)
             (subst (λ t'. Done b (write_span f.id (metric (b w.in-Metric.key) w.in-Metric.bits)) NoneMade (with_tables t m) (with_tables t' m) (ok_or w.insert_below-in-Metric.result (RowFull f.id))) (sym w.tables-is)
-            (done_metric (with_tables t m) o f.id f.number own _ (slice_get-get_or t.spans.now f.number w.index-tables-number-in-Metric.result c.requires.rows.within) b w.in-Metric.key w.in-Metric.bits
+            (done_metric (with_tables t m) o f.id f.number own _ (slice_get-get_or t.spans.now f.number w.index-tables-number-in-Metric.result c.requires.row.within) b w.in-Metric.key w.in-Metric.bits
             w.insert_below-in-Metric.new.table w.insert_below-in-Metric.new.head w.insert_below-in-Metric.result w.insert_below-in-Metric.auto.table w.insert_below-in-Metric.ensures.cases))
       ]
 

@@ -30,13 +30,13 @@ returns-clause-done g c =
             rw (w.in-Meta.is, c.ok_or.ensures.value, w.ok_or-is)
             (subst (λ ys'. Done b (write_segment f.id (meta (b w.in-Meta.key) (b w.in-Meta.value))) NoneMade m₀ (with_segments ys' (with_tables c.match-pair.tables m)) (ok_or w.insert_below.result (RowFull f.id))) (sym w.segments-is)
             (subst (λ t'. Done b (write_segment f.id (meta (b w.in-Meta.key) (b w.in-Meta.value))) NoneMade m₀ (with_segments (set ys f.number (with_meta_head w.insert_below.new.head (get_or ys f.number w.index-segments-number.result))) (with_tables t' m)) (ok_or w.insert_below.result (RowFull f.id))) (sym w.tables-is)
-            (done_meta m₀ o f.id f.number own _ (slice_get-get_or ys f.number w.index-segments-number.result c.requires.within) b w.in-Meta.key w.in-Meta.value
+            (done_meta m₀ o f.id f.number own _ (slice_get-get_or ys f.number w.index-segments-number.result c.requires.row.within) b w.in-Meta.key w.in-Meta.value
             w.insert_below.new.table w.insert_below.new.head w.insert_below.result w.insert_below.auto.table w.insert_below.ensures.cases)))
         | in-Metric w ↦
             rw (w.in-Metric.is, c.ok_or.ensures.value, w.ok_or-is)
             (subst (λ ys'. Done b (write_segment f.id (metric (b w.in-Metric.key) w.in-Metric.bits)) NoneMade m₀ (with_segments ys' (with_tables c.match-pair.tables m)) (ok_or w.insert_below-in-Metric.result (RowFull f.id))) (sym w.segments-is)
             (subst (λ t'. Done b (write_segment f.id (metric (b w.in-Metric.key) w.in-Metric.bits)) NoneMade m₀ (with_segments (set ys f.number (with_metrics_head w.insert_below-in-Metric.new.head (get_or ys f.number w.index-segments-number-in-Metric.result))) (with_tables t' m)) (ok_or w.insert_below-in-Metric.result (RowFull f.id))) (sym w.tables-is)
-            (done_metric m₀ o f.id f.number own _ (slice_get-get_or ys f.number w.index-segments-number-in-Metric.result c.requires.within) b w.in-Metric.key w.in-Metric.bits
+            (done_metric m₀ o f.id f.number own _ (slice_get-get_or ys f.number w.index-segments-number-in-Metric.result c.requires.row.within) b w.in-Metric.key w.in-Metric.bits
             w.insert_below-in-Metric.new.table w.insert_below-in-Metric.new.head w.insert_below-in-Metric.result w.insert_below-in-Metric.auto.table w.insert_below-in-Metric.ensures.cases)))
       ]
 
