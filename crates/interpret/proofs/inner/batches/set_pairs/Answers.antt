@@ -9,13 +9,14 @@ use Rattle.interpret.proofs.Following.{only_then, played_start, played_more, pla
 use Rattle.interpret.proofs.inner.batches.set_pairs.Goals as goal
 
 pub loop-init : goal.loop-init
-loop-init g c = record { only = refl; rows = c.requires.rows; memory = memory_kept _; played = λ m o own. played_start g.T.Text.bytes (set_attribute (pair_attribute c.args.kind) c.args.found.id) (held c.args.buffer.now) NoneMade _ c.args.index.now o }
+loop-init g c = record { only = refl; row = c.requires.row; memory = memory_kept _; played = λ m o own. played_start g.T.Text.bytes (set_attribute (pair_attribute c.args.kind) c.args.found.id) (held c.args.buffer.now) NoneMade _ c.args.index.now o }
 
 pub returns-in_err-set_pair : goal.returns-in_err-set_pair
 returns-in_err-set_pair g c =
     let p = err_from_is_err_and c.from_residual.result c.from_residual.ensures.1 in
     let same : c.loop.counter + suc (c.args.count - suc c.loop.counter) ≡ c.args.count = omega arith in
     rw (p.1, p.2) (record {
+      row = c.set_pair.ensures.row;
       memory = memory_then _ _ _ c.loop.invariant.memory c.set_pair.ensures.memory;
       only = only_then c.args.tables.now c.loop.tables c.set_pair.new.tables c.loop.invariant.only c.set_pair.ensures.only;
       played = λ m o own.
@@ -27,7 +28,7 @@ returns-in_err-set_pair g c =
 pub loop-preserved : goal.loop-preserved
 loop-preserved g c = record {
   only = only_then c.args.tables.now c.loop.tables c.set_pair.new.tables c.loop.invariant.only c.set_pair.ensures.only;
-  rows = c.set_pair.ensures.rows;
+  row = c.set_pair.ensures.row;
   memory = memory_then _ _ _ c.loop.invariant.memory c.set_pair.ensures.memory;
   played = λ m o own.
       let before = c.loop.invariant.played m o own in

@@ -3,7 +3,7 @@ use Rattle.layout.specs.Reads.{held}
 use Rattle.book.specs.Actions.{times}
 use Rattle.book.specs.Flush.{set_attribute}
 use Rattle.tables.specs.Lent.{SameMemory}
-use Rattle.operations.specs.Parts.{HasRows, SpansOnly, with_tables}
+use Rattle.operations.specs.Parts.{HasRow, SpansOnly, with_tables}
 use Rattle.interpret.specs.Attributes.{pair_attribute}
 use Rattle.interpret.specs.Played.{OnLive}
 use Rattle.interpret.proofs.inner.batches.set_pairs.Given as goal
@@ -11,7 +11,7 @@ use Rattle.interpret.proofs.inner.batches.set_pairs.Given as goal
 abbrev pub invariant-loop : goal.invariant-loop
 invariant-loop g l = record {
   only : SpansOnly l.initial.tables l.tables;
-  rows : HasRows l.tables l.found.number;
+  row : HasRow l.kind l.tables l.found.number;
   memory : SameMemory l.initial.tables l.tables;
   played : OnLive g.T.Text.bytes l.found.id l.found.number (times l.counter (set_attribute (pair_attribute l.kind) l.found.id)) (held l.buffer) (with_tables l.initial.tables) (with_tables l.tables) l.initial.index l.index (Ok tt);
 }

@@ -1,5 +1,7 @@
+use Rattle.std.proofs.Common.{sym, subst}
 use Rattle.std.proofs.lemmas.Result.{err_from_is_err_and}
 use Rattle.layout.specs.Reads.{held}
+use Rattle.operations.specs.Done.{SegmentRows}
 use Rattle.operations.specs.Parts.{with_seated}
 use Rattle.interpret.specs.Attributes.{pair_attribute}
 use Rattle.interpret.proofs.Playing.{note-unread, note_done}
@@ -17,3 +19,6 @@ returns-clause-played g c = λ m o.
     note_done g.T.Text.bytes (held c.args.buffer.now) _ c.args.index.now (pair_attribute c.args.kind) c.args.segment _ c.read_pair.new.index _ _
     (c.in_ok-pair.ensures.reads (with_seated c.args.tables.now c.args.segments.now (g.G.Index.content c.args.by_segment.now).held m))
     (c.add_segment_pair.ensures.done m o)
+
+pub add_segment_pair-requires : goal.add_segment_pair-requires
+add_segment_pair-requires g c = record { rows = subst (λ k. SegmentRows k c.args.tables.now c.args.segments.now (g.G.Index.content c.args.by_segment.now).held) (sym c.in_ok-pair.ensures.kind) c.requires.rows }

@@ -1,6 +1,7 @@
+use Rattle.std.proofs.Common.{sym, subst}
 use Rattle.std.proofs.lemmas.Result.{err_from_is_err_and}
 use Rattle.layout.specs.Reads.{held}
-use Rattle.operations.specs.Parts.{with_tables}
+use Rattle.operations.specs.Parts.{HasRow, with_tables}
 use Rattle.interpret.specs.Attributes.{pair_attribute}
 use Rattle.interpret.proofs.Playing.{attribute_unread, attribute_done}
 use Rattle.interpret.proofs.inner.spans.set_pair.Goals as goal
@@ -15,3 +16,9 @@ pub returns-clause-played : goal.returns-clause-played
 returns-clause-played g c = (λ m o own.
     attribute_done g.T.Text.bytes (held c.args.buffer.now) _ c.args.index.now (pair_attribute c.args.kind) c.args.found.id _ c.read_pair.new.index _ _ (c.in_ok-pair.ensures.reads (with_tables c.args.tables.now m))
     (c.add_pair.ensures.done m o own))
+
+pub add_pair-requires : goal.add_pair-requires
+add_pair-requires g c = record { row = subst (λ k. HasRow k c.args.tables.now c.args.found.number) (sym c.in_ok-pair.ensures.kind) c.requires.row }
+
+pub returns-clause-row : goal.returns-clause-row
+returns-clause-row g c = subst (λ k. HasRow k c.add_pair.new.tables c.args.found.number) c.in_ok-pair.ensures.kind c.add_pair.ensures.row
