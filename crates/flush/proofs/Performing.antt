@@ -1,6 +1,6 @@
 -- Operations of the book, by their parts.
-use Rattle.std.proofs.Common.{◌≡◌, ℕ, List, drop, Some, None, Err, Result, sym, refl, ap, ◌∙◌, subst, inl}
-use Rattle.index.specs.Held.{at}
+use Rattle.std.proofs.Common.{◌≡◌, ℕ, List, length, drop, Some, None, Err, Result, sym, refl, ap, ◌∙◌, subst, inl}
+use Rattle.index.specs.Held.{Content, at}
 use Rattle.refusals.specs.declared.ChangeBufferError.{ChangeBufferError}
 use Rattle.refusals.specs.declared.ChangeBufferError.TheVariants.{SpanNotFound}
 use Rattle.book.specs.Maps.{find}
@@ -12,12 +12,20 @@ use Rattle.book.specs.Acts.{Ending, turned_down, Ended, Acts}
 use Rattle.book.specs.Flush.{Operand, Attribute, create, on_segment, live_span, read_attribute, write_segment, set_attribute, make, perform}
 use Rattle.book.proofs.Acted.{acts-from, acts_as, acts-find, acts-missing, acts_stop}
 use Rattle.book.proofs.Boths.{both-left-none}
+use Rattle.tables.specs.declared.segment.Segment.{Segment}
+use Rattle.tables.specs.declared.settings.Settings.{Settings}
+use Rattle.tables.specs.declared.tables.Tables.{Tables}
+use Rattle.tables.specs.Lent.{passed}
 use Rattle.tables.specs.Store.{Store, chained, span_at, free}
 use Rattle.tables.specs.InOrder.{InOrder}
 use Rattle.tables.specs.Shows.{LikeSpan, Shows}
 use Rattle.recorder.specs.Answers.{refusal}
-use Rattle.operations.specs.Done.{ending, NoneMade, gone}
-use Rattle.operations.proofs.Taking.{ids-within}
+use Rattle.operations.specs.declared.values.PairKind.{PairKind}
+use Rattle.operations.specs.declared.values.PairKind.TheVariants.{Meta, Metric}
+use Rattle.operations.specs.Parts.{HasRow}
+use Rattle.operations.specs.Done.{ending, NoneMade, SegmentRows, gone}
+use Rattle.operations.proofs.Taking.{ids-within, seats-within}
+use Rattle.operations.proofs.Writing.{rows_within, span-within, text_row-within, number_row-within}
 use Rattle.operations.proofs.Keeping.{records-same}
 use Rattle.operations.proofs.Spans.{span_own}
 use Rattle.operations.proofs.Creating.{at-number}
@@ -30,6 +38,17 @@ use Rattle.flush.specs.declared.operation.OnSpan.TheVariants.{Field, Batch}
 use Rattle.flush.specs.declared.operation.OnSpan.TheVariants as span
 use Rattle.flush.specs.Found.{SegmentAt}
 use Rattle.flush.specs.Operation.{span_meaning, span_act}
+
+-- ---- rows of tables in order
+
+module _ {T : Type 0} (t : Tables T) (ys : List (Segment T)) (s : Settings T) (ids seats : Content) (o : InOrder (passed t ys s ids seats)) where
+  pub has_row : (id r : ℕ) → at ids.held id ≡ Some r → (k : PairKind) → HasRow k t r
+  has_row id r own Meta = record { within = span-within _ o id r own; row = text_row-within _ o id r own }
+  has_row id r own Metric = record { within = span-within _ o id r own; row = number_row-within _ o id r own }
+
+  pub segment_rows : (k : PairKind) → SegmentRows k t ys seats.held
+  segment_rows Meta id r e = let w = seats-within _ o id r e in record { within = w; row = rows_within r (length ys) 32 _ w o.segment_lengths.text_rows }
+  segment_rows Metric id r e = let w = seats-within _ o id r e in record { within = w; row = rows_within r (length ys) 16 _ w o.segment_lengths.number_rows }
 
 module _ {T : Type 0} (bytes : T → Text) (buffer : List ℕ) where
   -- ---- a create is its reads, and then the making

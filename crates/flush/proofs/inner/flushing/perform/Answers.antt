@@ -4,11 +4,10 @@ use Rattle.layout.specs.Reads.{held}
 use Rattle.tables.specs.Lent.{passed}
 use Rattle.index.specs.Held.{at}
 use Rattle.operations.specs.Done.{NoneMade}
-use Rattle.operations.proofs.Taking.{ids-within, seats-within}
-use Rattle.operations.proofs.Writing.{span-within, text_row-within, number_row-within}
+use Rattle.operations.proofs.Taking.{ids-within}
 use Rattle.interpret.specs.Played.{Played}
 use Rattle.flush.specs.Operation.{span_act, segment_attribute}
-use Rattle.flush.proofs.Performing.{span_then, span-missing, segment_then, segment-missing}
+use Rattle.flush.proofs.Performing.{has_row, segment_rows, span_then, span-missing, segment_then, segment-missing}
 use Rattle.flush.proofs.Operating.{still_cached}
 use Rattle.flush.proofs.inner.flushing.perform.Goals as goal
 
@@ -26,12 +25,7 @@ returns-in_err-found-in-Spans-clause-played g c =
     (span-missing g.T.Text.bytes (held c.args.buffer.now) (passed c.args.tables.now c.args.segments.now c.args.settings.now (g.S.Index.content c.args.by_id.now) (g.G.Index.content c.args.by_segment.now)) c.args.id c.args.index.now c.in-Spans.on c.args.index.now c.in_err-found-in-Spans.field-0.0 c.requires.order f.0 f.1)
 
 pub on_span-requires : goal.on_span-requires
-on_span-requires g c =
-    let o = c.requires.order in
-    let r = c.in_ok-found-in-Spans.found.number in
-    let own = c.in_ok-found-in-Spans.ensures.finds.1 in
-    let m = passed c.args.tables.now c.args.segments.now c.args.settings.now (g.S.Index.content c.args.by_id.now) (g.G.Index.content c.args.by_segment.now) in
-    record { rows = record { within = span-within m o c.args.id r own; text_row = text_row-within m o c.args.id r own; number_row = number_row-within m o c.args.id r own } }
+on_span-requires g c = record { rows = has_row c.args.tables.now c.args.segments.now c.args.settings.now (g.S.Index.content c.args.by_id.now) (g.G.Index.content c.args.by_segment.now) c.requires.order c.args.id c.in_ok-found-in-Spans.found.number c.in_ok-found-in-Spans.ensures.finds.1 }
 
 pub returns-in_ok-found-in-Spans-clause-played : goal.returns-in_ok-found-in-Spans-clause-played
 returns-in_ok-found-in-Spans-clause-played g c =
@@ -55,9 +49,7 @@ pub segment_of-segment-requires : goal.segment_of-segment-requires
 segment_of-segment-requires g c = ids-within (passed c.args.tables.now c.args.segments.now c.args.settings.now (g.S.Index.content c.args.by_id.now) (g.G.Index.content c.args.by_segment.now)) c.requires.order c.args.id c.in_ok-found-in-Segments.found.number c.in_ok-found-in-Segments.ensures.finds.1
 
 pub on_segment-requires : goal.on_segment-requires
-on_segment-requires g c =
-    let o = c.requires.order in
-    record { rows = record { within = seats-within (passed c.args.tables.now c.args.segments.now c.args.settings.now (g.S.Index.content c.args.by_id.now) (g.G.Index.content c.args.by_segment.now)) o; text_rows = o.segment_lengths.text_rows; number_rows = o.segment_lengths.number_rows } }
+on_segment-requires g c = record { rows = segment_rows c.args.tables.now c.args.segments.now c.args.settings.now (g.S.Index.content c.args.by_id.now) (g.G.Index.content c.args.by_segment.now) c.requires.order }
 
 pub returns-in_ok-found-in-Segments-clause-played : goal.returns-in_ok-found-in-Segments-clause-played
 returns-in_ok-found-in-Segments-clause-played g c =
