@@ -1,14 +1,17 @@
 -- Operations as the code names them, in the words of the table of opcodes.
-use Rattle.std.specs.Prelude.{◌≡◌, ℕ, ◌+◌, List, Some}
+use Rattle.std.specs.Prelude.{◌≡◌, ℕ, ◌+◌, List, Some, Result}
 use Rattle.layout.specs.Reads.{number_at}
 use Rattle.book.specs.Maps.{find}
-use Rattle.book.specs.Book.{Field as BookField}
+use Rattle.refusals.specs.declared.ChangeBufferError.{ChangeBufferError}
+use Rattle.book.specs.Book.{Text, Field as BookField}
 use Rattle.book.specs.Actions.{Act}
 use Rattle.book.specs.Flush.{Operand, table, Attribute, create, on_span, on_segment, batch, set_attribute}
 use Rattle.book.specs.Flush as book
+use Rattle.tables.specs.Store.{Store}
+use Rattle.tables.specs.InOrder.{InOrder}
 use Rattle.interpret.specs.Attributes.{attribute_of, pair_attribute, origin_attribute}
 use Rattle.interpret.specs.Creation.{fields_of}
-use Rattle.interpret.specs.Played.{set_counted}
+use Rattle.interpret.specs.Played.{Played, set_counted}
 use Rattle.flush.specs.declared.operation.OnSpan.{OnSpan}
 use Rattle.flush.specs.declared.operation.OnSpan.TheVariants.{Field, Batch}
 use Rattle.flush.specs.declared.operation.OnSpan.TheVariants as span
@@ -38,6 +41,11 @@ abbrev pub meaning : Operation → book.Operation
 meaning (Creates extra) = create (fields_of extra)
 meaning (Spans o) = span_meaning o
 meaning (Segments o) = on_segment (segment_attribute o)
+
+-- an action that makes the span with this id alone, whatever the memory is beside the parts given
+abbrev pub MakesOne : {T : Type 0} → (T → Text) → ℕ → Act (Unit {0}) → List ℕ → (before after : Store T → Store T) → (from to : ℕ) → Result (Unit {0}) ChangeBufferError → Type 0
+MakesOne {T} bytes id act buffer before after from to answer =
+    (m : Store T) → InOrder (before m) → Played bytes act (λ q. q ≡ id) buffer (before m) (after m) from to answer
 
 -- the ids of which an operation makes a span
 abbrev pub made_by : Operation → ℕ → ℕ → Type 0

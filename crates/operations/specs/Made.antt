@@ -14,6 +14,7 @@ use Rattle.tables.specs.declared.span.Span.{Span}
 use Rattle.tables.specs.declared.segment.Segment.{Segment}
 use Rattle.tables.specs.declared.settings.Settings.{Settings}
 use Rattle.tables.specs.Store.{Store, free, stands}
+use Rattle.tables.specs.InOrder.{InOrder}
 use Rattle.tables.specs.Shows.{span_field}
 use Rattle.operations.specs.declared.values.Making.{Making}
 use Rattle.operations.specs.Done.{Unused, gone, Done}
@@ -132,7 +133,7 @@ module _ {T : Type 0} where
     pub no_texts : texts ws ≡ []
     pub no_numbers : numbers ws ≡ []
 
-  -- a create by these writings; the span with this id alone is made
-  abbrev pub Creates : (bytes : T → Text) → ℕ → ℕ → Making T → (before after : Store T) → Result (Unit {0}) ChangeBufferError → Type 0
+  -- a create by these writings, whatever the memory is beside the parts given; the span with this id alone is made
+  abbrev pub Creates : (bytes : T → Text) → ℕ → ℕ → Making T → (before after : Store T → Store T) → Result (Unit {0}) ChangeBufferError → Type 0
   Creates bytes id segment k before after answer =
-      (ws : List Writing) → Gives bytes k ws → Done bytes (make id segment ws) (λ q. q ≡ id) before after answer
+      (m : Store T) (ws : List Writing) → InOrder (before m) → Gives bytes k ws → Done bytes (make id segment ws) (λ q. q ≡ id) (before m) (after m) answer

@@ -2,9 +2,11 @@
 use Rattle.std.specs.Prelude.{◌≡◌, ℕ, ◌+◌, ◌*◌, ◌<◌, ◌≤◌, List, length}
 use Rattle.std.specs.Borrow.{MutBor}
 use Rattle.index.specs.declared.entry.Entry.{Entry}
+use Rattle.index.specs.Held.{Content}
 use Rattle.book.specs.Limits.{span_text_row, span_number_row, segment_text_limit, segment_number_limit}
 use Rattle.tables.specs.declared.span.Span.{Span}
 use Rattle.tables.specs.declared.segment.Segment.{Segment}
+use Rattle.tables.specs.declared.settings.Settings.{Settings}
 use Rattle.tables.specs.declared.tables.Tables.{Tables}
 use Rattle.tables.specs.Store.{Store, store}
 use Rattle.operations.specs.declared.values.PairKind.{PairKind}
@@ -42,6 +44,10 @@ module _ {T : Type 0} where
   -- and the segment records with their index
   abbrev pub with_seated : Tables T → List (Segment T) → List Entry → Store T → Store T
   with_seated t ys es m = with_seats es (with_segments ys (with_tables t m))
+
+  -- what a create looks at and writes: all but the number rows of spans, the rows of segments and the strings
+  abbrev pub create_parts : Tables T → List (Segment T) → Settings T → Content → Content → Store T → Store T
+  create_parts t ys s ids seats m = store t.spans.now t.span_meta.now m.span_metrics ys m.segment_meta m.segment_metrics m.strings t.defaults.now s ids.held ids.room seats.held seats.room
 
   -- the lent tables with other text pairs of spans
   abbrev pub with_texts : MutBor (List (T × T)) → Tables T → Tables T

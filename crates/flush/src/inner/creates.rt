@@ -2,11 +2,13 @@
 ghost use Rattle.std.specs.Prelude.{◌≡◌, ℕ};
 ghost use Rattle.layout.specs.Reads.{held};
 ghost use Rattle.book.specs.Flush.{perform, create as creates};
+ghost use Rattle.tables.specs.Store.{Store};
 ghost use Rattle.tables.specs.InOrder.{InOrder};
-ghost use Rattle.tables.specs.Lent.{SameMemory, passed};
-ghost use Rattle.operations.specs.Parts.{TextsOnly};
+ghost use Rattle.recorder.specs.Strings.{with_strings};
+ghost use Rattle.tables.specs.Lent.{SameMemory};
+ghost use Rattle.operations.specs.Parts.{TextsOnly, create_parts};
 ghost use Rattle.interpret.specs.Creation.{fields_of};
-ghost use Rattle.interpret.specs.Played.{Played};
+ghost use Rattle.flush.specs.Operation.{MakesOne};
 
 use index::Index;
 use interpret::creation::{Creation, Extra, read_creation};
@@ -29,9 +31,9 @@ pub fn create_span<T: Text, S: Index, G: Index>(
     id: u64,
     extra: Extra,
 ) -> Result<()>
-    requires order { InOrder (passed tables.old segments.old settings.old (S.content by_id.old) (G.content by_segment.old)) }
+    requires order { (m : Store T) × InOrder (create_parts tables.old segments.old settings.old (S.content by_id.old) (G.content by_segment.old) m) }
     ensures memory { SameMemory tables.old tables.new }
-    ensures played { Played T.bytes (perform (creates (fields_of extra)) id) (λ q. q ≡ id) (held buffer.now) (passed tables.old segments.old settings.old (S.content by_id.old) (G.content by_segment.old)) (passed tables.new segments.new settings.new (S.content by_id.new) (G.content by_segment.new)) index.old index.new result }
+    ensures played { MakesOne T.bytes id (perform (creates (fields_of extra)) id) (held buffer.now) (λ m. with_strings tables.old.strings.now (create_parts tables.old segments.old settings.old (S.content by_id.old) (G.content by_segment.old) m)) (λ m. with_strings tables.new.strings.now (create_parts tables.new segments.new settings.new (S.content by_id.new) (G.content by_segment.new) m)) index.old index.new result }
     ensures only { TextsOnly tables.old tables.new }
 {
     let Creation { segment, making } = read_creation(buffer, index, tables, extra)?;

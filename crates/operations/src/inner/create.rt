@@ -2,10 +2,11 @@
 ghost use Rattle.std.specs.Prelude.{◌≡◌, ℕ, ◌+◌, ◌*◌, ◌<◌, ◌≤◌, List, length, take, Some, slice_set};
 ghost use Rattle.std.specs.List.{slice_get};
 ghost use Rattle.vec_map.specs.Tables.{row, OthersStay};
+ghost use Rattle.tables.specs.Store.{Store};
 ghost use Rattle.tables.specs.InOrder.{InOrder};
-ghost use Rattle.tables.specs.Lent.{SameMemory, passed};
+ghost use Rattle.tables.specs.Lent.{SameMemory};
 ghost use Rattle.operations.specs.Done.{gone};
-ghost use Rattle.operations.specs.Parts.{TextsOnly};
+ghost use Rattle.operations.specs.Parts.{TextsOnly, create_parts};
 ghost use Rattle.operations.specs.Made.{SameSettings, made_span, new_segment, Roomy, Puts, RecordFor, CanGrow, Makes, Enters, Creates};
 
 use crate::inner::places::{Place, seat_for, span_for};
@@ -170,9 +171,9 @@ pub fn create<T: Text, S: Index, G: Index>(
     segment: u64,
     making: Making<T>,
 ) -> Result<()>
-    requires order { InOrder (passed tables.old segments.old settings.old (S.content by_id.old) (G.content by_segment.old)) }
+    requires order { (m : Store T) × InOrder (create_parts tables.old segments.old settings.old (S.content by_id.old) (G.content by_segment.old) m) }
     ensures memory { SameMemory tables.old tables.new }
-    ensures done { Creates T.bytes id segment making (passed tables.old segments.old settings.old (S.content by_id.old) (G.content by_segment.old)) (passed tables.new segments.new settings.new (S.content by_id.new) (G.content by_segment.new)) result }
+    ensures done { Creates T.bytes id segment making (create_parts tables.old segments.old settings.old (S.content by_id.old) (G.content by_segment.old)) (create_parts tables.new segments.new settings.new (S.content by_id.new) (G.content by_segment.new)) result }
     ensures only { TextsOnly tables.old tables.new }
 {
     let place = span_for(tables, by_id, id, settings.next_free)?;

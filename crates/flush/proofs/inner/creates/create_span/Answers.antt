@@ -1,9 +1,12 @@
-use Rattle.std.proofs.Common.{◌≡◌}
+use Rattle.std.proofs.Common.{◌≡◌, sym, ap, subst}
 use Rattle.std.proofs.lemmas.Result.{err_from_is_err_and}
 use Rattle.layout.specs.Reads.{held}
-use Rattle.book.specs.Flush.{make}
-use Rattle.tables.specs.Lent.{passed}
+use Rattle.book.specs.Flush.{create, make, perform}
+use Rattle.tables.specs.declared.tables.Tables.{Tables}
+use Rattle.recorder.specs.Strings.{with_strings}
+use Rattle.operations.specs.Parts.{create_parts}
 use Rattle.interpret.specs.Creation.{fields_of, read_create}
+use Rattle.interpret.specs.Played.{Played}
 use Rattle.interpret.proofs.Playing.{unread, read_done}
 use Rattle.interpret.proofs.Creations.{gives}
 use Rattle.flush.proofs.Performing.{as_create}
@@ -12,12 +15,20 @@ use Rattle.flush.proofs.inner.creates.create_span.Goals as goal
 pub returns-in_err-segment-clause-played : goal.returns-in_err-segment-clause-played
 returns-in_err-segment-clause-played g c =
     let p = err_from_is_err_and c.from_residual.result c.from_residual.ensures.1 in
-    rw (p.1, p.2) (as_create g.T.Text.bytes (held c.args.buffer.now) (fields_of c.args.extra) c.args.id (λ q. q ≡ c.args.id) _ _ c.args.index.now c.read_creation.new.index _
-    (unread g.T.Text.bytes (held c.args.buffer.now) _ c.args.index.now (λ q. q ≡ c.args.id) (read_create (fields_of c.args.extra)) (λ x. make c.args.id x.0 x.1) c.read_creation.new.index c.in_err-segment.field-0.0 c.requires.order
-    (c.in_err-segment.ensures.reads (passed c.args.tables.now c.args.segments.now c.args.settings.now (g.S.Index.content c.args.by_id.now) (g.G.Index.content c.args.by_segment.now)))))
+    rw (p.1, p.2) (λ m o.
+    as_create g.T.Text.bytes (held c.args.buffer.now) (fields_of c.args.extra) c.args.id (λ q. q ≡ c.args.id) _ _ c.args.index.now c.read_creation.new.index _
+    (unread g.T.Text.bytes (held c.args.buffer.now) _ c.args.index.now (λ q. q ≡ c.args.id) (read_create (fields_of c.args.extra)) (λ x. make c.args.id x.0 x.1) c.read_creation.new.index c.in_err-segment.field-0.0 o
+    (c.in_err-segment.ensures.reads (create_parts c.args.tables.now c.args.segments.now c.args.settings.now (g.S.Index.content c.args.by_id.now) (g.G.Index.content c.args.by_segment.now) m))))
 
 pub returns-clause-played : goal.returns-clause-played
-returns-clause-played g c = as_create g.T.Text.bytes (held c.args.buffer.now) (fields_of c.args.extra) c.args.id (λ q. q ≡ c.args.id) _ _ c.args.index.now c.read_creation.new.index _
+returns-clause-played g c = λ m o.
+    let parts = λ (t : Tables g.row.T.Denot). create_parts t c.create.new.segments c.create.new.settings (g.S.Index.content c.create.new.by_id) (g.G.Index.content c.create.new.by_segment) (with_strings c.args.tables.now.strings.now m) in
+    subst (λ ss. Played g.T.Text.bytes (perform (create (fields_of c.args.extra)) c.args.id) (λ q. q ≡ c.args.id) (held c.args.buffer.now) (with_strings c.args.tables.now.strings.now (create_parts c.args.tables.now c.args.segments.now c.args.settings.now (g.S.Index.content c.args.by_id.now) (g.G.Index.content c.args.by_segment.now) m)) (with_strings ss (parts c.create.new.tables)) c.args.index.now c.read_creation.new.index c.create.result)
+    (sym (ap (λ t. t.strings.now) c.create.ensures.only))
+    (as_create g.T.Text.bytes (held c.args.buffer.now) (fields_of c.args.extra) c.args.id (λ q. q ≡ c.args.id) _ _ c.args.index.now c.read_creation.new.index _
     (read_done g.T.Text.bytes (held c.args.buffer.now) _ c.args.index.now (λ q. q ≡ c.args.id) (read_create (fields_of c.args.extra)) (λ x. make c.args.id x.0 x.1) _ c.read_creation.new.index _ _
-    (c.in_ok-segment.ensures.reads (passed c.args.tables.now c.args.segments.now c.args.settings.now (g.S.Index.content c.args.by_id.now) (g.G.Index.content c.args.by_segment.now)))
-    (c.create.ensures.done _ (gives g.T.Text.bytes _ c.args.extra c.in_ok-segment.ensures.blank)))
+    (c.in_ok-segment.ensures.reads (create_parts c.args.tables.now c.args.segments.now c.args.settings.now (g.S.Index.content c.args.by_id.now) (g.G.Index.content c.args.by_segment.now) m))
+    (c.create.ensures.done (with_strings c.args.tables.now.strings.now m) _ o (gives g.T.Text.bytes _ c.args.extra c.in_ok-segment.ensures.blank))))
+
+pub create-requires : goal.create-requires
+create-requires g c = record { order = c.requires.order }

@@ -1,8 +1,8 @@
-use Rattle.std.proofs.Common.{◌≡◌, ℕ, Ok, length, sym, ap, subst}
+use Rattle.std.proofs.Common.{◌≡◌, ℕ, Ok, length, sym, ap, subst, arith}
 use Rattle.std.proofs.lemmas.Result.{err_from_is_err_and}
 use Rattle.book.specs.Flush.{make}
-use Rattle.tables.specs.Lent.{passed}
 use Rattle.tables.specs.declared.tables.Tables.{Tables}
+use Rattle.operations.specs.Parts.{create_parts}
 use Rattle.operations.specs.Done.{Done, gone}
 use Rattle.operations.specs.Made.{RecordFor, Roomy, Makes, Enters}
 use Rattle.operations.proofs.Taking.{ids-within, seats-within}
@@ -13,35 +13,44 @@ use Rattle.operations.proofs.inner.create.create.Goals as goal
 pub returns-in_err-place-clause-done : goal.returns-in_err-place-clause-done
 returns-in_err-place-clause-done g c =
     let p = err_from_is_err_and c.from_residual.result c.from_residual.ensures.1 in
-    rw (p.1, p.2, c.in_err-place.ensures.0) (λ ws gives.
-    done_no_record _ c.requires.order (g.met.S.Index.once c.args.by_id.now) (g.met.G.Index.once c.args.by_segment.now) g.T.Text.bytes c.args.id c.args.segment ws c.in_err-place.ensures.1)
+    rw (p.1, p.2, c.in_err-place.ensures.0) (λ m ws o gives.
+    done_no_record _ o (g.met.S.Index.once c.args.by_id.now) (g.met.G.Index.once c.args.by_segment.now) g.T.Text.bytes c.args.id c.args.segment ws c.in_err-place.ensures.1)
 
 pub seat_for-requires : goal.seat_for-requires
-seat_for-requires g c = seats-within _ c.requires.order
+seat_for-requires g c = seats-within _ c.requires.order.1
 
 pub returns-in_err-seat-clause-done : goal.returns-in_err-seat-clause-done
 returns-in_err-seat-clause-done g c =
     let p = err_from_is_err_and c.from_residual-in_err-seat.result c.from_residual-in_err-seat.ensures.1 in
-    rw (p.1, p.2, c.in_err-seat.ensures.0) (λ ws gives.
-    done_no_seat _ c.requires.order (g.met.S.Index.once c.args.by_id.now) (g.met.G.Index.once c.args.by_segment.now) g.T.Text.bytes c.args.id c.args.segment ws
+    rw (p.1, p.2, c.in_err-seat.ensures.0) (λ m ws o gives.
+    done_no_seat _ o (g.met.S.Index.once c.args.by_id.now) (g.met.G.Index.once c.args.by_segment.now) g.T.Text.bytes c.args.id c.args.segment ws
     c.in_ok-place.place.number c.in_ok-place.ensures.1 c.in_err-seat.ensures.1)
 
 pub make_span-requires-clause-within : goal.make_span-requires-clause-within
-make_span-requires-clause-within g c = record_within _ _ c.args.tables.now.spans.now c.args.id c.in_ok-place.place.number (ids-within _ c.requires.order) c.in_ok-place.ensures.1
+make_span-requires-clause-within g c = record_within _ _ c.args.tables.now.spans.now c.args.id c.in_ok-place.place.number (ids-within _ c.requires.order.1) c.in_ok-place.ensures.1
 
 pub make_span-requires-clause-place : goal.make_span-requires-clause-place
 make_span-requires-clause-place g c =
-    let w = record_within _ _ c.args.tables.now.spans.now c.args.id c.in_ok-place.place.number (ids-within _ c.requires.order) c.in_ok-place.ensures.1 in
-    rows_within c.in_ok-place.place.number (length c.args.tables.now.spans.now) 99 _ w c.requires.order.span_lengths.text_rows
+    let w = record_within _ _ c.args.tables.now.spans.now c.args.id c.in_ok-place.place.number (ids-within _ c.requires.order.1) c.in_ok-place.ensures.1 in
+    rows_within c.in_ok-place.place.number (length c.args.tables.now.spans.now) 99 _ w c.requires.order.1.span_lengths.text_rows
+
+pub make_span-requires-clause-pairs : goal.make_span-requires-clause-pairs
+make_span-requires-clause-pairs g c =
+    let d = c.requires.order.1.others.default_table in
+    let f = c.requires.order.1.others.few_defaults in
+    omega (arith, d, f)
+
+pub make_span-requires-clause-bound : goal.make_span-requires-clause-bound
+make_span-requires-clause-bound g c = c.requires.order.1.others.few_defaults
 
 pub make_span-requires-clause-room : goal.make_span-requires-clause-room
 make_span-requires-clause-room g c =
     let content = g.S.Index.content c.args.by_id.now in
     subst (λ (q : ℕ). Roomy content.held content.room q) (sym c.in_ok-place.ensures.0)
-    (ids-roomy _ c.requires.order (g.met.S.Index.once c.args.by_id.now) (g.met.G.Index.once c.args.by_segment.now) c.args.id c.in_ok-place.place.number c.in_ok-place.ensures.1)
+    (ids-roomy _ c.requires.order.1 (g.met.S.Index.once c.args.by_id.now) (g.met.G.Index.once c.args.by_segment.now) c.args.id c.in_ok-place.place.number c.in_ok-place.ensures.1)
 
 pub enter_segment-requires-clause-within : goal.enter_segment-requires-clause-within
-enter_segment-requires-clause-within g c = record_within _ _ c.args.segments.now c.args.segment c.in_ok-seat.seat.number (seats-within _ c.requires.order) c.in_ok-seat.ensures.1.0
+enter_segment-requires-clause-within g c = record_within _ _ c.args.segments.now c.args.segment c.in_ok-seat.seat.number (seats-within _ c.requires.order.1) c.in_ok-seat.ensures.1.0
 
 pub enter_segment-requires-clause-own : goal.enter_segment-requires-clause-own
 enter_segment-requires-clause-own g c =
@@ -51,14 +60,14 @@ pub enter_segment-requires-clause-room : goal.enter_segment-requires-clause-room
 enter_segment-requires-clause-room g c =
     let content = g.G.Index.content c.args.by_segment.now in
     subst (λ (q : ℕ). Roomy content.held content.room q) (sym c.in_ok-seat.ensures.0)
-    (seats-roomy _ c.requires.order (g.met.S.Index.once c.args.by_id.now) (g.met.G.Index.once c.args.by_segment.now) c.args.segment c.in_ok-seat.seat.number c.in_ok-seat.ensures.1.0)
+    (seats-roomy _ c.requires.order.1 (g.met.S.Index.once c.args.by_id.now) (g.met.G.Index.once c.args.by_segment.now) c.args.segment c.in_ok-seat.seat.number c.in_ok-seat.ensures.1.0)
 
 pub returns-clause-done : goal.returns-clause-done
-returns-clause-done g c = λ ws gives.
-    let m = passed c.args.tables.now c.args.segments.now c.args.settings.now (g.S.Index.content c.args.by_id.now) (g.G.Index.content c.args.by_segment.now) in
-    let end = λ (t : Tables g.row.T.Denot). passed t c.enter_segment.new.segments c.make_span.new.settings (g.S.Index.content c.make_span.new.by_id) (g.G.Index.content c.enter_segment.new.by_segment) in
-    subst (λ z. Done g.T.Text.bytes (make c.args.id c.args.segment ws) (λ q. q ≡ c.args.id) m z (Ok tt)) (sym (ap end c.make_span.ensures.only))
-    (created m c.requires.order (g.met.S.Index.once c.args.by_id.now) (g.met.G.Index.once c.args.by_segment.now) g.T.Text.bytes c.args.id c.args.segment c.in_ok-place.place.number c.in_ok-seat.seat.number c.args.making
+returns-clause-done g c = λ m ws o gives.
+    let before = create_parts c.args.tables.now c.args.segments.now c.args.settings.now (g.S.Index.content c.args.by_id.now) (g.G.Index.content c.args.by_segment.now) m in
+    let end = λ (t : Tables g.row.T.Denot). create_parts t c.enter_segment.new.segments c.make_span.new.settings (g.S.Index.content c.make_span.new.by_id) (g.G.Index.content c.enter_segment.new.by_segment) m in
+    subst (λ z. Done g.T.Text.bytes (make c.args.id c.args.segment ws) (λ q. q ≡ c.args.id) before z (Ok tt)) (sym (ap end c.make_span.ensures.only))
+    (created before o (g.met.S.Index.once c.args.by_id.now) (g.met.G.Index.once c.args.by_segment.now) g.T.Text.bytes c.args.id c.args.segment c.in_ok-place.place.number c.in_ok-seat.seat.number c.args.making
     c.in_ok-place.ensures.1 c.in_ok-seat.ensures.1 c.make_span.new.tables.spans.now c.make_span.new.tables.span_meta.now c.enter_segment.new.segments c.make_span.new.settings
     _ _ _ _ c.make_span.ensures.long c.make_span.ensures.capacity c.enter_segment.ensures.capacity
     (subst (λ (q : ℕ). Makes c.args.tables.now.spans.now c.make_span.new.tables.spans.now c.args.tables.now.span_meta.now c.make_span.new.tables.span_meta.now c.args.tables.now.defaults.now c.args.settings.now c.make_span.new.settings (g.S.Index.content c.args.by_id.now).held (g.S.Index.content c.make_span.new.by_id).held q c.args.segment c.in_ok-place.place.number c.args.making) c.in_ok-place.ensures.0 c.make_span.ensures.makes)
