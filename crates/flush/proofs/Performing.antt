@@ -20,9 +20,10 @@ use Rattle.tables.specs.Store.{Store, chained, span_at, free}
 use Rattle.tables.specs.InOrder.{InOrder}
 use Rattle.tables.specs.Shows.{LikeSpan, Shows}
 use Rattle.recorder.specs.Answers.{refusal}
+use Rattle.recorder.specs.Strings.{with_strings}
 use Rattle.operations.specs.declared.values.PairKind.{PairKind}
 use Rattle.operations.specs.declared.values.PairKind.TheVariants.{Meta, Metric}
-use Rattle.operations.specs.Parts.{HasRow}
+use Rattle.operations.specs.Parts.{HasRow, TextsOnly, create_parts}
 use Rattle.operations.specs.Done.{ending, NoneMade, SegmentRows, gone}
 use Rattle.operations.proofs.Taking.{ids-within, seats-within}
 use Rattle.operations.proofs.Writing.{rows_within, span-within, text_row-within, number_row-within}
@@ -49,6 +50,13 @@ module _ {T : Type 0} (t : Tables T) (ys : List (Segment T)) (s : Settings T) (i
   pub segment_rows : (k : PairKind) → SegmentRows k t ys seats.held
   segment_rows Meta id r e = let w = seats-within _ o id r e in record { within = w; row = rows_within r (length ys) 32 _ w o.segment_lengths.text_rows }
   segment_rows Metric id r e = let w = seats-within _ o id r e in record { within = w; row = rows_within r (length ys) 16 _ w o.segment_lengths.number_rows }
+
+-- ---- a create in the memory that was lent
+
+pub as_passed : {T : Type 0} (t n : Tables T) (ys ys' : List (Segment T)) (s s' : Settings T) (ids ids' seats seats' : Content) → TextsOnly t n
+    → with_strings n.strings.now (create_parts n ys' s' ids' seats' (passed t ys s ids seats)) ≡ passed n ys' s' ids' seats'
+as_passed t n ys ys' s s' ids ids' seats seats' only =
+    ap (λ z. with_strings z.strings.now (create_parts z ys' s' ids' seats' (passed t ys s ids seats))) only ∙ sym (ap (λ z. passed z ys' s' ids' seats') only)
 
 module _ {T : Type 0} (bytes : T → Text) (buffer : List ℕ) where
   -- ---- a create is its reads, and then the making

@@ -1,21 +1,32 @@
-use Rattle.std.proofs.Common.{ℕ, ap, ◌∙◌, subst}
+use Rattle.std.proofs.Common.{◌≡◌, ℕ, ap, ◌∙◌, subst}
 use Rattle.std.proofs.lemmas.Result.{err_from_is_err_and}
 use Rattle.layout.specs.Reads.{held}
+use Rattle.book.specs.Flush.{create, perform}
 use Rattle.tables.specs.Lent.{passed}
 use Rattle.index.specs.Held.{at}
 use Rattle.operations.specs.Done.{NoneMade}
 use Rattle.operations.proofs.Taking.{ids-within}
+use Rattle.interpret.specs.Creation.{fields_of}
 use Rattle.interpret.specs.Played.{Played}
 use Rattle.flush.specs.Operation.{span_act, segment_attribute}
-use Rattle.flush.proofs.Performing.{has_row, segment_rows, span_then, span-missing, segment_then, segment-missing}
+use Rattle.flush.proofs.Performing.{as_passed, has_row, segment_rows, span_then, span-missing, segment_then, segment-missing}
 use Rattle.flush.proofs.Operating.{still_cached}
 use Rattle.flush.proofs.inner.flushing.perform.Goals as goal
 
+pub create_span-requires : goal.create_span-requires
+create_span-requires g c = record { order = (passed c.args.tables.now c.args.segments.now c.args.settings.now (g.S.Index.content c.args.by_id.now) (g.G.Index.content c.args.by_segment.now), c.requires.order) }
+
 pub returns-in-Creates-clause-played : goal.returns-in-Creates-clause-played
-returns-in-Creates-clause-played g c = rw c.in-Creates.is c.create_span.ensures.played
+returns-in-Creates-clause-played g c =
+    let m = passed c.args.tables.now c.args.segments.now c.args.settings.now (g.S.Index.content c.args.by_id.now) (g.G.Index.content c.args.by_segment.now) in
+    let n = c.create_span.new in
+    rw c.in-Creates.is
+    (subst (λ z. Played g.T.Text.bytes (perform (create (fields_of c.in-Creates.extra)) c.args.id) (λ q. q ≡ c.args.id) (held c.args.buffer.now) m z c.args.index.now n.index c.create_span.result)
+    (as_passed c.args.tables.now n.tables c.args.segments.now n.segments c.args.settings.now n.settings (g.S.Index.content c.args.by_id.now) (g.S.Index.content n.by_id) (g.G.Index.content c.args.by_segment.now) (g.G.Index.content n.by_segment) c.create_span.ensures.only)
+    (c.create_span.ensures.played m c.requires.order))
 
 pub returns-in-Creates-clause-cached : goal.returns-in-Creates-clause-cached
-returns-in-Creates-clause-cached g c = still_cached _ _ c.args.last.now c.create_span.ensures.played.spans_kept.stays c.requires.cached
+returns-in-Creates-clause-cached g c = still_cached _ _ c.args.last.now (c.create_span.ensures.played (passed c.args.tables.now c.args.segments.now c.args.settings.now (g.S.Index.content c.args.by_id.now) (g.G.Index.content c.args.by_segment.now)) c.requires.order).spans_kept.stays c.requires.cached
 
 pub returns-in_err-found-in-Spans-clause-played : goal.returns-in_err-found-in-Spans-clause-played
 returns-in_err-found-in-Spans-clause-played g c =
