@@ -21,6 +21,7 @@ use Rattle.tables.specs.InOrder.{InOrder}
 use Rattle.tables.specs.Shows.{Shows}
 use Rattle.recorder.specs.Answers.{refusal, answer}
 use Rattle.tables.specs.declared.tables.Tables.{Tables}
+use Rattle.tables.proofs.Memory.{memory_kept, memory_then}
 use Rattle.operations.specs.Parts.{SharedStay}
 use Rattle.operations.specs.Done.{SpansKept, ending, gone}
 use Rattle.operations.proofs.Keeping.{records-same}
@@ -38,9 +39,13 @@ pub still_cached : (es es' : List Entry) (last : Option Entry) → ((id r : ℕ)
 still_cached es es' None stays c = tt
 still_cached es es' (Some f) stays c = stays f.id f.number c
 
+-- nothing changed
+pub shared_start : {T : Type 0} (t : Tables T) → SharedStay t t
+shared_start t = record { memory = memory_kept t; strings = refl; defaults = refl }
+
 -- strings and default pairs that stayed, and then again
 pub shared_then : {T : Type 0} (t t₁ t₂ : Tables T) → SharedStay t t₁ → SharedStay t₁ t₂ → SharedStay t t₂
-shared_then t t₁ t₂ a b = record { strings = b.strings ∙ a.strings; defaults = b.defaults ∙ a.defaults }
+shared_then t t₁ t₂ a b = record { memory = memory_then t t₁ t₂ a.memory b.memory; strings = b.strings ∙ a.strings; defaults = b.defaults ∙ a.defaults }
 
 -- ---- the head of an operation
 

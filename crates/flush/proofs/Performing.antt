@@ -55,8 +55,7 @@ module _ {T : Type 0} (t : Tables T) (ys : List (Segment T)) (s : Settings T) (i
 
 pub as_passed : {T : Type 0} (t n : Tables T) (ys ys' : List (Segment T)) (s s' : Settings T) (ids ids' seats seats' : Content) → TextsOnly t n
     → with_strings n.strings.now (create_parts n ys' s' ids' seats' (passed t ys s ids seats)) ≡ passed n ys' s' ids' seats'
-as_passed t n ys ys' s s' ids ids' seats seats' only =
-    ap (λ z. with_strings z.strings.now (create_parts z ys' s' ids' seats' (passed t ys s ids seats))) only ∙ sym (ap (λ z. passed z ys' s' ids' seats') only)
+as_passed t n ys ys' s s' ids ids' seats seats' only = rw (only.span_metrics, only.segment_meta, only.segment_metrics) refl
 
 module _ {T : Type 0} (bytes : T → Text) (buffer : List ℕ) where
   -- ---- a create is its reads, and then the making

@@ -1,7 +1,7 @@
 // The call that flushes a change buffer.
 ghost use Rattle.std.specs.Prelude.{◌≡◌};
 ghost use Rattle.book.specs.Flush.{buffer_after};
-ghost use Rattle.tables.specs.Lent.{SameMemory, passed};
+ghost use Rattle.tables.specs.Lent.{passed};
 ghost use Rattle.recorder.specs.Answers.{answer};
 ghost use Rattle.operations.specs.Parts.{SharedStay};
 ghost use Rattle.flush.specs.Flushes.{FlushesAll};
@@ -25,7 +25,6 @@ pub fn flush_change_buffer<T: Text, S: Index, G: Index>(
     by_segment: &mut G,
     buffer: &mut [u8],
 ) -> Result<()>
-    ensures memory { SameMemory tables.old tables.new }
     ensures call { FlushesAll T.bytes buffer.old
         (passed tables.old segments.old settings.old (S.content by_id.old) (G.content by_segment.old))
         (passed tables.new segments.new settings.new (S.content by_id.new) (G.content by_segment.new))

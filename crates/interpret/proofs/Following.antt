@@ -14,6 +14,7 @@ use Rattle.tables.specs.Shows.{Shows}
 use Rattle.std.proofs.lemmas.Option.{none-some, slice_get_within}
 use Rattle.recorder.specs.Answers.{refusal}
 use Rattle.tables.specs.declared.tables.Tables.{Tables}
+use Rattle.tables.proofs.Memory.{memory_kept, memory_then}
 use Rattle.operations.specs.Parts.{SpansOnly}
 use Rattle.operations.specs.Done.{Unused, RowMoved, RowsMoved, RecordsKept, SpansKept, SegmentsKept, gone}
 use Rattle.operations.proofs.Creating.{at-number}
@@ -61,10 +62,19 @@ module _ {A : Type 0} (unused : A → Bool) (meta metrics : A → Head) (Made Ma
 
 -- ---- tables
 
--- where spans and their rows alone changed, and then again
+-- nothing changed
+pub only_start : {T : Type 0} (t : Tables T) → SpansOnly t t
+only_start t = record { memory = memory_kept t; segment_meta = refl; segment_metrics = refl; strings = refl; defaults = refl }
+
+-- spans and their rows alone changed, and then again
 pub only_then : {T : Type 0} (t t₁ t₂ : Tables T) → SpansOnly t t₁ → SpansOnly t₁ t₂ → SpansOnly t t₂
-only_then t t₁ t₂ a b =
-    b ∙ ap (λ z. record { spans = t₂.spans; span_meta = t₂.span_meta; span_metrics = t₂.span_metrics; segment_meta = z.segment_meta; segment_metrics = z.segment_metrics; strings = z.strings; defaults = z.defaults }) a
+only_then t t₁ t₂ a b = record {
+  memory = memory_then t t₁ t₂ a.memory b.memory;
+  segment_meta = b.segment_meta ∙ a.segment_meta;
+  segment_metrics = b.segment_metrics ∙ a.segment_metrics;
+  strings = b.strings ∙ a.strings;
+  defaults = b.defaults ∙ a.defaults;
+}
 
 -- ---- actions
 

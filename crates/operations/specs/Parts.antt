@@ -8,6 +8,7 @@ use Rattle.tables.specs.declared.span.Span.{Span}
 use Rattle.tables.specs.declared.segment.Segment.{Segment}
 use Rattle.tables.specs.declared.settings.Settings.{Settings}
 use Rattle.tables.specs.declared.tables.Tables.{Tables}
+use Rattle.tables.specs.Lent.{SameMemory}
 use Rattle.tables.specs.Store.{Store, store}
 use Rattle.operations.specs.declared.values.PairKind.{PairKind}
 use Rattle.operations.specs.declared.values.PairKind.TheVariants.{Meta, Metric}
@@ -53,20 +54,35 @@ module _ {T : Type 0} where
   abbrev pub with_texts : MutBor (List (T × T)) → Tables T → Tables T
   with_texts ms t = record { spans = t.spans; span_meta = ms; span_metrics = t.span_metrics; segment_meta = t.segment_meta; segment_metrics = t.segment_metrics; strings = t.strings; defaults = t.defaults }
 
-  -- of the lent tables these alone may have changed: the spans and their rows
-  abbrev pub SpansOnly : (old new : Tables T) → Type 0
-  SpansOnly t n = n ≡ record { spans = n.spans; span_meta = n.span_meta; span_metrics = n.span_metrics; segment_meta = t.segment_meta; segment_metrics = t.segment_metrics; strings = t.strings; defaults = t.defaults }
+  -- the tables are the memory that was lent still, and these alone may have changed: the spans and their rows
+  pub record SpansOnly (old new : Tables T) : Type 0 where
+    pub memory : SameMemory old new
+    pub segment_meta : new.segment_meta ≡ old.segment_meta
+    pub segment_metrics : new.segment_metrics ≡ old.segment_metrics
+    pub strings : new.strings ≡ old.strings
+    pub defaults : new.defaults ≡ old.defaults
 
   -- the spans and their text rows
-  abbrev pub TextsOnly : (old new : Tables T) → Type 0
-  TextsOnly t n = n ≡ record { spans = n.spans; span_meta = n.span_meta; span_metrics = t.span_metrics; segment_meta = t.segment_meta; segment_metrics = t.segment_metrics; strings = t.strings; defaults = t.defaults }
+  pub record TextsOnly (old new : Tables T) : Type 0 where
+    pub memory : SameMemory old new
+    pub span_metrics : new.span_metrics ≡ old.span_metrics
+    pub segment_meta : new.segment_meta ≡ old.segment_meta
+    pub segment_metrics : new.segment_metrics ≡ old.segment_metrics
+    pub strings : new.strings ≡ old.strings
+    pub defaults : new.defaults ≡ old.defaults
 
   -- the rows of the segments
-  abbrev pub RowsOnly : (old new : Tables T) → Type 0
-  RowsOnly t n = n ≡ record { spans = t.spans; span_meta = t.span_meta; span_metrics = t.span_metrics; segment_meta = n.segment_meta; segment_metrics = n.segment_metrics; strings = t.strings; defaults = t.defaults }
+  pub record RowsOnly (old new : Tables T) : Type 0 where
+    pub memory : SameMemory old new
+    pub spans : new.spans ≡ old.spans
+    pub span_meta : new.span_meta ≡ old.span_meta
+    pub span_metrics : new.span_metrics ≡ old.span_metrics
+    pub strings : new.strings ≡ old.strings
+    pub defaults : new.defaults ≡ old.defaults
 
   -- all but the strings and the default pairs
   pub record SharedStay (old new : Tables T) : Type 0 where
+    pub memory : SameMemory old new
     pub strings : new.strings ≡ old.strings
     pub defaults : new.defaults ≡ old.defaults
 

@@ -5,7 +5,6 @@ ghost use Rattle.book.specs.Flush.{perform, create as creates};
 ghost use Rattle.tables.specs.Store.{Store};
 ghost use Rattle.tables.specs.InOrder.{InOrder};
 ghost use Rattle.recorder.specs.Strings.{with_strings};
-ghost use Rattle.tables.specs.Lent.{SameMemory};
 ghost use Rattle.operations.specs.Parts.{TextsOnly, create_parts};
 ghost use Rattle.interpret.specs.Creation.{fields_of};
 ghost use Rattle.flush.specs.Operation.{MakesOne};
@@ -32,7 +31,6 @@ pub fn create_span<T: Text, S: Index, G: Index>(
     extra: Extra,
 ) -> Result<()>
     requires order { (m : Store T) × InOrder (create_parts tables.old segments.old settings.old (S.content by_id.old) (G.content by_segment.old) m) }
-    ensures memory { SameMemory tables.old tables.new }
     ensures played { MakesOne T.bytes id (perform (creates (fields_of extra)) id) (held buffer.now) (λ m. with_strings tables.old.strings.now (create_parts tables.old segments.old settings.old (S.content by_id.old) (G.content by_segment.old) m)) (λ m. with_strings tables.new.strings.now (create_parts tables.new segments.new settings.new (S.content by_id.new) (G.content by_segment.new) m)) index.old index.new result }
     ensures only { TextsOnly tables.old tables.new }
 {

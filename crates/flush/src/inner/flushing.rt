@@ -4,7 +4,7 @@ ghost use Rattle.layout.specs.Reads.{held};
 ghost use Rattle.book.specs.Actions.{times};
 ghost use Rattle.book.specs.Flush.{perform as performs, operation as one-operation, operations as all-operations};
 ghost use Rattle.tables.specs.InOrder.{InOrder};
-ghost use Rattle.tables.specs.Lent.{SameMemory, passed};
+ghost use Rattle.tables.specs.Lent.{passed};
 ghost use Rattle.operations.specs.Parts.{SharedStay};
 ghost use Rattle.interpret.specs.Played.{Played};
 ghost use Rattle.book.specs.Flush.{buffer_after};
@@ -44,7 +44,6 @@ fn perform<T: Text, S: Index, G: Index>(
 ) -> Result<()>
     requires order { InOrder (passed tables.old segments.old settings.old (S.content by_id.old) (G.content by_segment.old)) }
     requires cached { Cached (S.content by_id.old).held last.old }
-    ensures memory { SameMemory tables.old tables.new }
     ensures played { Played T.bytes (performs (meaning operation) id) (made_by operation id) (held buffer.now) (passed tables.old segments.old settings.old (S.content by_id.old) (G.content by_segment.old)) (passed tables.new segments.new settings.new (S.content by_id.new) (G.content by_segment.new)) index.old index.new result }
     ensures shared { SharedStay tables.old tables.new }
     ensures cached { Cached (S.content by_id.new).held last.new }
@@ -77,7 +76,6 @@ fn operate<T: Text, S: Index, G: Index>(
 ) -> Result<()>
     requires order { InOrder (passed tables.old segments.old settings.old (S.content by_id.old) (G.content by_segment.old)) }
     requires cached { Cached (S.content by_id.old).held last.old }
-    ensures memory { SameMemory tables.old tables.new }
     ensures played { Played T.bytes one-operation (Created (held buffer.now)) (held buffer.now) (passed tables.old segments.old settings.old (S.content by_id.old) (G.content by_segment.old)) (passed tables.new segments.new settings.new (S.content by_id.new) (G.content by_segment.new)) index.old index.new result }
     ensures shared { SharedStay tables.old tables.new }
     ensures cached { Cached (S.content by_id.new).held last.new }
@@ -109,7 +107,6 @@ fn operate_times<T: Text, S: Index, G: Index>(
     count: u32,
 ) -> Result<()>
     requires order { InOrder (passed tables.old segments.old settings.old (S.content by_id.old) (G.content by_segment.old)) }
-    ensures memory { SameMemory tables.old tables.new }
     ensures played { Played T.bytes (times count one-operation) (Created (held buffer.now)) (held buffer.now) (passed tables.old segments.old settings.old (S.content by_id.old) (G.content by_segment.old)) (passed tables.new segments.new settings.new (S.content by_id.new) (G.content by_segment.new)) index.old index.new result }
     ensures shared { SharedStay tables.old tables.new }
 {
@@ -133,7 +130,6 @@ pub fn flush<T: Text, S: Index, G: Index>(
     by_segment: &mut G,
 ) -> Result<()>
     requires order { InOrder (passed tables.old segments.old settings.old (S.content by_id.old) (G.content by_segment.old)) }
-    ensures memory { SameMemory tables.old tables.new }
     ensures played { Played T.bytes all-operations (Created (held buffer.now)) (held buffer.now) (passed tables.old segments.old settings.old (S.content by_id.old) (G.content by_segment.old)) (passed tables.new segments.new settings.new (S.content by_id.new) (G.content by_segment.new)) index.old index.new result }
     ensures shared { SharedStay tables.old tables.new }
     ensures bound { OnOk result (index.old + 8 ≤ length (held buffer.now)) }
@@ -162,7 +158,6 @@ pub fn flush_bytes<T: Text, S: Index, G: Index>(
     by_segment: &mut G,
 ) -> Result<()>
     requires order { InOrder (passed tables.old segments.old settings.old (S.content by_id.old) (G.content by_segment.old)) }
-    ensures memory { SameMemory tables.old tables.new }
     ensures flushes { Flushes T.bytes bytes.old (passed tables.old segments.old settings.old (S.content by_id.old) (G.content by_segment.old)) (passed tables.new segments.new settings.new (S.content by_id.new) (G.content by_segment.new)) (answer result) }
     ensures after { bytes.new ≡ buffer_after (answer result) bytes.old }
     ensures shared { SharedStay tables.old tables.new }

@@ -1,7 +1,6 @@
 // Operations on the segment of a live span, by their kind.
 ghost use Rattle.std.specs.Prelude.{ℕ};
 ghost use Rattle.layout.specs.Reads.{held};
-ghost use Rattle.tables.specs.Lent.{SameMemory};
 ghost use Rattle.operations.specs.declared.values.PairKind.{PairKind};
 ghost use Rattle.operations.specs.Done.{SegmentRows};
 ghost use Rattle.operations.specs.Parts.{RowsOnly, with_seated};
@@ -27,7 +26,6 @@ pub fn on_segment<T: Text, G: Index>(
     operation: OnSegment,
 ) -> Result<()>
     requires rows { (kind : PairKind) → SegmentRows kind tables.old segments.old (G.content by_segment.now).held }
-    ensures memory { SameMemory tables.old tables.new }
     ensures played { OnAny T.bytes (note_attribute (segment_attribute operation) segment) (held buffer.now) (with_seated tables.old segments.old (G.content by_segment.now).held) (with_seated tables.new segments.new (G.content by_segment.now).held) index.old index.new result }
     ensures only { RowsOnly tables.old tables.new }
 {

@@ -1,7 +1,6 @@
 // Operations on a live span, by their kind.
 ghost use Rattle.std.specs.Prelude.{ℕ};
 ghost use Rattle.layout.specs.Reads.{held};
-ghost use Rattle.tables.specs.Lent.{SameMemory};
 ghost use Rattle.operations.specs.declared.values.PairKind.{PairKind};
 ghost use Rattle.operations.specs.Parts.{HasRow, SpansOnly, with_tables};
 ghost use Rattle.interpret.specs.Played.{OnLive};
@@ -24,7 +23,6 @@ pub fn on_span<T: Text>(
     operation: OnSpan,
 ) -> Result<()>
     requires rows { (kind : PairKind) → HasRow kind tables.old found.number }
-    ensures memory { SameMemory tables.old tables.new }
     ensures played { OnLive T.bytes found.id found.number (span_act operation found.id) (held buffer.now) (with_tables tables.old) (with_tables tables.new) index.old index.new result }
     ensures only { SpansOnly tables.old tables.new }
 {

@@ -3,7 +3,6 @@ ghost use Rattle.std.specs.Prelude.{◌≡◌, ℕ};
 ghost use Rattle.layout.specs.Reads.{held};
 ghost use Rattle.book.specs.Actions.{times};
 ghost use Rattle.book.specs.Flush.{set_attribute};
-ghost use Rattle.tables.specs.Lent.{SameMemory};
 ghost use Rattle.operations.specs.Parts.{HasRow, SpansOnly, with_tables};
 ghost use Rattle.interpret.specs.Attributes.{pair_attribute};
 ghost use Rattle.interpret.specs.Played.{OnLive, set_counted};
@@ -24,7 +23,6 @@ pub fn batch_set_pairs<T: Text>(
     kind: PairKind,
 ) -> Result<()>
     requires row { HasRow kind tables.old found.number }
-    ensures memory { SameMemory tables.old tables.new }
     ensures played { OnLive T.bytes found.id found.number (set_counted (pair_attribute kind) found.id) (held buffer.now) (with_tables tables.old) (with_tables tables.new) index.old index.new result }
     ensures only { SpansOnly tables.old tables.new }
     ensures row { HasRow kind tables.new found.number }
@@ -42,7 +40,6 @@ fn set_pairs<T: Text>(
     count: u32,
 ) -> Result<()>
     requires row { HasRow kind tables.old found.number }
-    ensures memory { SameMemory tables.old tables.new }
     ensures played { OnLive T.bytes found.id found.number (times count (set_attribute (pair_attribute kind) found.id)) (held buffer.now) (with_tables tables.old) (with_tables tables.new) index.old index.new result }
     ensures only { SpansOnly tables.old tables.new }
     ensures row { HasRow kind tables.new found.number }

@@ -1,7 +1,6 @@
 // Operations on the segment of a live span, which are read and dropped where it is gone.
 ghost use Rattle.std.specs.Prelude.{◌≡◌, ℕ, length};
 ghost use Rattle.layout.specs.Reads.{held};
-ghost use Rattle.tables.specs.Lent.{SameMemory};
 ghost use Rattle.operations.specs.Done.{HeldWithin, SegmentRows};
 ghost use Rattle.operations.specs.Parts.{RowsOnly, with_seated};
 ghost use Rattle.interpret.specs.Attributes.{origin_attribute, pair_attribute};
@@ -27,7 +26,6 @@ pub fn set_trace_pair<T: Text, G: Index>(
     kind: PairKind,
 ) -> Result<()>
     requires rows { SegmentRows kind tables.old segments.old (G.content by_segment.now).held }
-    ensures memory { SameMemory tables.old tables.new }
     ensures played { OnAny T.bytes (note_attribute (pair_attribute kind) segment) (held buffer.now) (with_seated tables.old segments.old (G.content by_segment.now).held) (with_seated tables.new segments.new (G.content by_segment.now).held) index.old index.new result }
     ensures only { RowsOnly tables.old tables.new }
 {

@@ -2,7 +2,6 @@
 ghost use Rattle.std.specs.Prelude.{◌≡◌, ℕ, ◌<◌, length};
 ghost use Rattle.layout.specs.Reads.{held};
 ghost use Rattle.book.specs.Flush.{set_attribute};
-ghost use Rattle.tables.specs.Lent.{SameMemory};
 ghost use Rattle.operations.specs.Parts.{HasRow, SpansOnly, with_tables};
 ghost use Rattle.interpret.specs.Attributes.{attribute_of, pair_attribute};
 ghost use Rattle.interpret.specs.Played.{OnLive};
@@ -26,7 +25,6 @@ pub fn set_pair<T: Text>(
     kind: PairKind,
 ) -> Result<()>
     requires row { HasRow kind tables.old found.number }
-    ensures memory { SameMemory tables.old tables.new }
     ensures played { OnLive T.bytes found.id found.number (set_attribute (pair_attribute kind) found.id) (held buffer.now) (with_tables tables.old) (with_tables tables.new) index.old index.new result }
     ensures only { SpansOnly tables.old tables.new }
     ensures row { HasRow kind tables.new found.number }
@@ -43,7 +41,6 @@ pub fn set_span_field<T: Text>(
     name: FieldName,
 ) -> Result<()>
     requires within { found.number < length tables.old.spans.now }
-    ensures memory { SameMemory tables.old tables.new }
     ensures played { OnLive T.bytes found.id found.number (set_attribute (attribute_of name) found.id) (held buffer.now) (with_tables tables.old) (with_tables tables.new) index.old index.new result }
     ensures only { SpansOnly tables.old tables.new }
 {

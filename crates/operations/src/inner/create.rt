@@ -4,7 +4,6 @@ ghost use Rattle.std.specs.List.{slice_get};
 ghost use Rattle.vec_map.specs.Tables.{row, OthersStay};
 ghost use Rattle.tables.specs.Store.{Store};
 ghost use Rattle.tables.specs.InOrder.{InOrder};
-ghost use Rattle.tables.specs.Lent.{SameMemory};
 ghost use Rattle.operations.specs.Done.{gone};
 ghost use Rattle.operations.specs.Parts.{TextsOnly, create_parts};
 ghost use Rattle.operations.specs.Made.{SameSettings, made_span, new_segment, Roomy, Puts, RecordFor, CanGrow, Makes, Enters, Creates};
@@ -111,7 +110,6 @@ fn make_span<T: Text, S: Index>(
     requires pairs { settings.old.defaults ≤ length tables.old.defaults.now }
     requires bound { settings.old.defaults ≤ 32 }
     requires room { Roomy (S.content by_id.old).held (S.content by_id.old).room place.id }
-    ensures memory { SameMemory tables.old tables.new }
     ensures makes { Makes tables.old.spans.now tables.new.spans.now tables.old.span_meta.now tables.new.span_meta.now tables.old.defaults.now settings.old settings.new (S.content by_id.old).held (S.content by_id.new).held place.id segment place.number making }
     ensures capacity { (S.content by_id.new).room ≡ (S.content by_id.old).room }
     ensures long { length tables.new.span_meta.now ≡ length tables.old.span_meta.now }
@@ -172,7 +170,6 @@ pub fn create<T: Text, S: Index, G: Index>(
     making: Making<T>,
 ) -> Result<()>
     requires order { (m : Store T) × InOrder (create_parts tables.old segments.old settings.old (S.content by_id.old) (G.content by_segment.old) m) }
-    ensures memory { SameMemory tables.old tables.new }
     ensures done { Creates T.bytes id segment making (create_parts tables.old segments.old settings.old (S.content by_id.old) (G.content by_segment.old)) (create_parts tables.new segments.new settings.new (S.content by_id.new) (G.content by_segment.new)) result }
     ensures only { TextsOnly tables.old tables.new }
 {

@@ -1,5 +1,4 @@
 // One pair more on a live span.
-ghost use Rattle.tables.specs.Lent.{SameMemory};
 ghost use Rattle.operations.specs.Done.{OnSpanHeld};
 ghost use Rattle.operations.specs.Fields.{kind_of, pair_written};
 ghost use Rattle.operations.specs.Parts.{HasRow, SpansOnly, with_tables};
@@ -15,7 +14,6 @@ use texts::Text;
 // A pair on the live span that was found. Refused (13) where its row has no place for one more.
 pub fn add_pair<T: Text>(tables: &mut Tables<'_, T>, found: Entry, pair: Pair<T>) -> Result<()>
     requires row { HasRow (kind_of pair) tables.old found.number }
-    ensures memory { SameMemory tables.old tables.new }
     ensures done { OnSpanHeld T.bytes found.id found.number (pair_written T.bytes pair) (with_tables tables.old) (with_tables tables.new) result }
     ensures row { HasRow (kind_of pair) tables.new found.number }
     ensures only { SpansOnly tables.old tables.new }

@@ -1,7 +1,6 @@
 // Writings to the segment of a live span, which are dropped where it is gone.
 ghost use Rattle.std.specs.Prelude.{◌≡◌, ℕ, ◌<◌, length, Ok};
 ghost use Rattle.book.specs.Book.{origin, text, ◌≔◌};
-ghost use Rattle.tables.specs.Lent.{SameMemory};
 ghost use Rattle.operations.specs.Done.{OnSeat, OnSegmentIfStanding, HeldWithin, SegmentRows};
 ghost use Rattle.operations.specs.Fields.{kind_of, pair_written};
 ghost use Rattle.operations.specs.Parts.{HasSegmentRow, RowsOnly, with_segments, with_seats, with_tables, with_seated};
@@ -24,7 +23,6 @@ pub fn add_segment_pair<T: Text, G: Index>(
     pair: Pair<T>,
 ) -> Result<()>
     requires rows { SegmentRows (kind_of pair) tables.old segments.old (G.content by_segment.now).held }
-    ensures memory { SameMemory tables.old tables.new }
     ensures done { OnSegmentIfStanding T.bytes id (pair_written T.bytes pair) (with_seated tables.old segments.old (G.content by_segment.now).held) (with_seated tables.new segments.new (G.content by_segment.now).held) result }
     ensures only { RowsOnly tables.old tables.new }
 {
@@ -41,7 +39,6 @@ fn pair_at<T: Text>(
     pair: Pair<T>,
 ) -> Result<()>
     requires row { HasSegmentRow (kind_of pair) tables.old segments.old found.number }
-    ensures memory { SameMemory tables.old tables.new }
     ensures done { OnSeat T.bytes found.id found.number (pair_written T.bytes pair) (λ m. with_segments segments.old (with_tables tables.old m)) (λ m. with_segments segments.new (with_tables tables.new m)) result }
     ensures only { RowsOnly tables.old tables.new }
 {

@@ -1,9 +1,9 @@
 use Rattle.std.proofs.Common.{refl}
 use Rattle.std.proofs.lemmas.Result.{err_from_is_err_and}
 use Rattle.book.specs.Calls.{change_buffer}
-use Rattle.tables.proofs.Memory.{memory_kept}
 use Rattle.recorder.proofs.Performing.{turned-away}
 use Rattle.operations.proofs.Keeping.{records-same}
+use Rattle.flush.proofs.Operating.{shared_start}
 use Rattle.flush.proofs.change_buffer.flush_change_buffer.Goals as goal
 
 pub returns-in_err-check_order : goal.returns-in_err-check_order
@@ -11,7 +11,6 @@ returns-in_err-check_order g c =
     let p = err_from_is_err_and c.from_residual.result c.from_residual.ensures.1 in
     rw (p.1, p.2, c.in_err-check_order.ensures.1)
     (record {
-      memory = memory_kept _;
       call = record {
         call = turned-away g.T.Text.bytes (change_buffer c.args.buffer.now) _ c.in_err-check_order.ensures.0;
         order = λ o. o;
@@ -19,12 +18,11 @@ returns-in_err-check_order g c =
         segments = records-same _ _ _ _ _ _;
       };
       after = refl;
-      shared = record { strings = refl; defaults = refl };
+      shared = shared_start _;
     })
 
 pub returns : goal.returns
 returns g c = record {
-  memory = c.flush_bytes.ensures.memory;
   call = record {
     call = record {
       untouched = λ n. absurd (n c.in_ok-check_order.ensures);

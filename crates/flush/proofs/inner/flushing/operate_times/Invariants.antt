@@ -2,7 +2,7 @@ use Rattle.std.proofs.Common.{Ok}
 use Rattle.layout.specs.Reads.{held}
 use Rattle.book.specs.Actions.{times}
 use Rattle.book.specs.Flush.{operation}
-use Rattle.tables.specs.Lent.{SameMemory, passed}
+use Rattle.tables.specs.Lent.{passed}
 use Rattle.operations.specs.Parts.{SharedStay}
 use Rattle.interpret.specs.Played.{Played}
 use Rattle.flush.specs.Found.{Cached}
@@ -12,7 +12,6 @@ use Rattle.flush.proofs.inner.flushing.operate_times.Given as goal
 abbrev pub invariant-loop : goal.invariant-loop
 invariant-loop g l = record {
   cached : Cached (g.S.Index.content l.by_id).held l.last;
-  memory : SameMemory l.initial.tables l.tables;
   shared : SharedStay l.initial.tables l.tables;
   played : Played g.T.Text.bytes (times l.counter operation) (Created (held l.buffer)) (held l.buffer)
       (passed l.initial.tables l.initial.segments l.initial.settings (g.S.Index.content l.initial.by_id) (g.G.Index.content l.initial.by_segment))

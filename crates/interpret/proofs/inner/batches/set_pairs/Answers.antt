@@ -1,15 +1,14 @@
-use Rattle.std.proofs.Common.{◌≡◌, suc, ◌+◌, ◌-◌, refl, arith}
+use Rattle.std.proofs.Common.{◌≡◌, suc, ◌+◌, ◌-◌, arith}
 use Rattle.std.proofs.lemmas.Result.{err_from_is_err_and}
 use Rattle.layout.specs.Reads.{held}
 use Rattle.book.specs.Flush.{set_attribute}
-use Rattle.tables.proofs.Memory.{memory_kept, memory_then}
 use Rattle.operations.specs.Done.{NoneMade}
 use Rattle.interpret.specs.Attributes.{pair_attribute}
-use Rattle.interpret.proofs.Following.{only_then, played_start, played_more, played_turned}
+use Rattle.interpret.proofs.Following.{only_start, only_then, played_start, played_more, played_turned}
 use Rattle.interpret.proofs.inner.batches.set_pairs.Goals as goal
 
 pub loop-init : goal.loop-init
-loop-init g c = record { only = refl; row = c.requires.row; memory = memory_kept _; played = λ m o own. played_start g.T.Text.bytes (set_attribute (pair_attribute c.args.kind) c.args.found.id) (held c.args.buffer.now) NoneMade _ c.args.index.now o }
+loop-init g c = record { only = only_start _; row = c.requires.row; played = λ m o own. played_start g.T.Text.bytes (set_attribute (pair_attribute c.args.kind) c.args.found.id) (held c.args.buffer.now) NoneMade _ c.args.index.now o }
 
 pub returns-in_err-set_pair : goal.returns-in_err-set_pair
 returns-in_err-set_pair g c =
@@ -17,7 +16,6 @@ returns-in_err-set_pair g c =
     let same : c.loop.counter + suc (c.args.count - suc c.loop.counter) ≡ c.args.count = omega arith in
     rw (p.1, p.2) (record {
       row = c.set_pair.ensures.row;
-      memory = memory_then _ _ _ c.loop.invariant.memory c.set_pair.ensures.memory;
       only = only_then c.args.tables.now c.loop.tables c.set_pair.new.tables c.loop.invariant.only c.set_pair.ensures.only;
       played = λ m o own.
           let before = c.loop.invariant.played m o own in
@@ -29,7 +27,6 @@ pub loop-preserved : goal.loop-preserved
 loop-preserved g c = record {
   only = only_then c.args.tables.now c.loop.tables c.set_pair.new.tables c.loop.invariant.only c.set_pair.ensures.only;
   row = c.set_pair.ensures.row;
-  memory = memory_then _ _ _ c.loop.invariant.memory c.set_pair.ensures.memory;
   played = λ m o own.
       let before = c.loop.invariant.played m o own in
       played_more g.T.Text.bytes (set_attribute (pair_attribute c.args.kind) c.args.found.id) (held c.args.buffer.now) NoneMade _ c.args.index.now NoneMade (λ id e. e) _ _ c.loop.counter c.loop.index c.set_pair.new.index before

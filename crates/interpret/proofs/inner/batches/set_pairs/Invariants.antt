@@ -2,7 +2,6 @@ use Rattle.std.proofs.Common.{Ok}
 use Rattle.layout.specs.Reads.{held}
 use Rattle.book.specs.Actions.{times}
 use Rattle.book.specs.Flush.{set_attribute}
-use Rattle.tables.specs.Lent.{SameMemory}
 use Rattle.operations.specs.Parts.{HasRow, SpansOnly, with_tables}
 use Rattle.interpret.specs.Attributes.{pair_attribute}
 use Rattle.interpret.specs.Played.{OnLive}
@@ -12,6 +11,5 @@ abbrev pub invariant-loop : goal.invariant-loop
 invariant-loop g l = record {
   only : SpansOnly l.initial.tables l.tables;
   row : HasRow l.kind l.tables l.found.number;
-  memory : SameMemory l.initial.tables l.tables;
   played : OnLive g.T.Text.bytes l.found.id l.found.number (times l.counter (set_attribute (pair_attribute l.kind) l.found.id)) (held l.buffer) (with_tables l.initial.tables) (with_tables l.tables) l.initial.index l.index (Ok tt);
 }

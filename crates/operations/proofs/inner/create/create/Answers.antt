@@ -1,7 +1,6 @@
 use Rattle.std.proofs.Common.{◌≡◌, ℕ, Ok, length, sym, ap, subst, arith}
 use Rattle.std.proofs.lemmas.Result.{err_from_is_err_and}
 use Rattle.book.specs.Flush.{make}
-use Rattle.tables.specs.declared.tables.Tables.{Tables}
 use Rattle.operations.specs.Parts.{create_parts}
 use Rattle.operations.specs.Done.{Done, gone}
 use Rattle.operations.specs.Made.{RecordFor, Roomy, Makes, Enters}
@@ -65,8 +64,7 @@ enter_segment-requires-clause-room g c =
 pub returns-clause-done : goal.returns-clause-done
 returns-clause-done g c = λ m ws o gives.
     let before = create_parts c.args.tables.now c.args.segments.now c.args.settings.now (g.S.Index.content c.args.by_id.now) (g.G.Index.content c.args.by_segment.now) m in
-    let end = λ (t : Tables g.row.T.Denot). create_parts t c.enter_segment.new.segments c.make_span.new.settings (g.S.Index.content c.make_span.new.by_id) (g.G.Index.content c.enter_segment.new.by_segment) m in
-    subst (λ z. Done g.T.Text.bytes (make c.args.id c.args.segment ws) (λ q. q ≡ c.args.id) before z (Ok tt)) (sym (ap end c.make_span.ensures.only))
+    rw c.make_span.ensures.only.defaults
     (created before o (g.met.S.Index.once c.args.by_id.now) (g.met.G.Index.once c.args.by_segment.now) g.T.Text.bytes c.args.id c.args.segment c.in_ok-place.place.number c.in_ok-seat.seat.number c.args.making
     c.in_ok-place.ensures.1 c.in_ok-seat.ensures.1 c.make_span.new.tables.spans.now c.make_span.new.tables.span_meta.now c.enter_segment.new.segments c.make_span.new.settings
     _ _ _ _ c.make_span.ensures.long c.make_span.ensures.capacity c.enter_segment.ensures.capacity

@@ -4,7 +4,6 @@ use Rattle.std.proofs.lemmas.Option.{slice_get-get_or}
 use Rattle.refusals.specs.declared.ChangeBufferError.TheVariants.{RowFull}
 use Rattle.book.specs.Book.{meta, metric}
 use Rattle.book.specs.Flush.{write_span}
-use Rattle.tables.specs.Lent.{SameMemory}
 use Rattle.operations.specs.declared.values.PairKind.TheVariants as kind
 use Rattle.operations.specs.Fields.{kind_of}
 use Rattle.operations.specs.Parts.{HasRow, SpansOnly, with_tables}
@@ -16,8 +15,8 @@ use Rattle.operations.proofs.inner.pairs.add_pair.Goals as goal
 pub returns-clause-only : goal.returns-clause-only
 returns-clause-only g c =
     elim c.match-pair.branch [
-    | in-Meta w ↦ subst (λ t. SpansOnly c.args.tables.now t) (sym w.tables-is) refl
-    | in-Metric w ↦ subst (λ t. SpansOnly c.args.tables.now t) (sym w.tables-is) refl
+    | in-Meta w ↦ subst (λ t. SpansOnly c.args.tables.now t) (sym w.tables-is) (record { memory = search rules; segment_meta = refl; segment_metrics = refl; strings = refl; defaults = refl })
+    | in-Metric w ↦ subst (λ t. SpansOnly c.args.tables.now t) (sym w.tables-is) (record { memory = search rules; segment_meta = refl; segment_metrics = refl; strings = refl; defaults = refl })
   ]
 
 pub returns-clause-row : goal.returns-clause-row
@@ -50,9 +49,3 @@ returns-clause-done g c =
             (done_metric (with_tables t m) o f.id f.number own _ (slice_get-get_or t.spans.now f.number w.index-tables-number-in-Metric.result c.requires.row.within) b w.in-Metric.key w.in-Metric.bits
             w.insert_below-in-Metric.new.table w.insert_below-in-Metric.new.head w.insert_below-in-Metric.result w.insert_below-in-Metric.auto.table w.insert_below-in-Metric.ensures.cases))
       ]
-
-pub returns-clause-memory : goal.returns-clause-memory
-returns-clause-memory g c = elim c.match-pair.branch [
-  | in-Meta w ↦ subst (SameMemory c.args.tables.now) (sym w.tables-is) (search rules)
-  | in-Metric w ↦ subst (SameMemory c.args.tables.now) (sym w.tables-is) (search rules)
-]

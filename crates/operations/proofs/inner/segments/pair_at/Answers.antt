@@ -4,7 +4,6 @@ use Rattle.std.proofs.lemmas.Option.{slice_get-get_or}
 use Rattle.refusals.specs.declared.ChangeBufferError.TheVariants.{RowFull}
 use Rattle.book.specs.Book.{meta, metric}
 use Rattle.book.specs.Flush.{write_segment}
-use Rattle.tables.specs.Lent.{SameMemory}
 use Rattle.operations.specs.Parts.{RowsOnly, with_segments, with_tables}
 use Rattle.operations.specs.Done.{Done, NoneMade}
 use Rattle.operations.proofs.Noting.{with_meta_head, with_metrics_head, done_meta, done_metric}
@@ -14,8 +13,8 @@ use Rattle.operations.proofs.inner.segments.pair_at.Goals as goal
 pub returns-clause-only : goal.returns-clause-only
 returns-clause-only g c =
     elim c.match-pair.branch [
-    | in-Meta w ↦ subst (λ t. RowsOnly c.args.tables.now t) (sym w.tables-is) refl
-    | in-Metric w ↦ subst (λ t. RowsOnly c.args.tables.now t) (sym w.tables-is) refl
+    | in-Meta w ↦ subst (λ t. RowsOnly c.args.tables.now t) (sym w.tables-is) (record { memory = search rules; spans = refl; span_meta = refl; span_metrics = refl; strings = refl; defaults = refl })
+    | in-Metric w ↦ subst (λ t. RowsOnly c.args.tables.now t) (sym w.tables-is) (record { memory = search rules; spans = refl; span_meta = refl; span_metrics = refl; strings = refl; defaults = refl })
   ]
 
 pub returns-clause-done : goal.returns-clause-done
@@ -39,9 +38,3 @@ returns-clause-done g c =
             (done_metric m₀ o f.id f.number own _ (slice_get-get_or ys f.number w.index-segments-number-in-Metric.result c.requires.row.within) b w.in-Metric.key w.in-Metric.bits
             w.insert_below-in-Metric.new.table w.insert_below-in-Metric.new.head w.insert_below-in-Metric.result w.insert_below-in-Metric.auto.table w.insert_below-in-Metric.ensures.cases)))
       ]
-
-pub returns-clause-memory : goal.returns-clause-memory
-returns-clause-memory g c = elim c.match-pair.branch [
-  | in-Meta w ↦ subst (SameMemory c.args.tables.now) (sym w.tables-is) (search rules)
-  | in-Metric w ↦ subst (SameMemory c.args.tables.now) (sym w.tables-is) (search rules)
-]
