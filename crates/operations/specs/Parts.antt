@@ -1,6 +1,5 @@
--- The memory of a recorder with one part replaced.
+-- The memory of a recorder with parts replaced, what a call leaves as it was, and the rows that it asks for.
 use Rattle.std.specs.Prelude.{◌≡◌, ℕ, ◌+◌, ◌*◌, ◌<◌, ◌≤◌, List, length}
-use Rattle.std.specs.Borrow.{MutBor}
 use Rattle.index.specs.declared.entry.Entry.{Entry}
 use Rattle.index.specs.Held.{Content}
 use Rattle.book.specs.Limits.{span_text_row, span_number_row, segment_text_limit, segment_number_limit}
@@ -49,10 +48,6 @@ module _ {T : Type 0} where
   -- what a create looks at and writes: all but the number rows of spans, the rows of segments and the strings
   abbrev pub create_parts : Tables T → List (Segment T) → Settings T → Content → Content → Store T → Store T
   create_parts t ys s ids seats m = store t.spans.now t.span_meta.now m.span_metrics ys m.segment_meta m.segment_metrics m.strings t.defaults.now s ids.held ids.room seats.held seats.room
-
-  -- the lent tables with other text pairs of spans
-  abbrev pub with_texts : MutBor (List (T × T)) → Tables T → Tables T
-  with_texts ms t = record { spans = t.spans; span_meta = ms; span_metrics = t.span_metrics; segment_meta = t.segment_meta; segment_metrics = t.segment_metrics; strings = t.strings; defaults = t.defaults }
 
   -- the tables are the memory that was lent still, and these alone may have changed: the spans and their rows
   pub record SpansOnly (old new : Tables T) : Type 0 where

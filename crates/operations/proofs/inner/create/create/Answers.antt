@@ -1,8 +1,7 @@
-use Rattle.std.proofs.Common.{◌≡◌, ℕ, Ok, length, sym, ap, subst, arith}
+use Rattle.std.proofs.Common.{ℕ, length, sym, subst, arith}
 use Rattle.std.proofs.lemmas.Result.{err_from_is_err_and}
-use Rattle.book.specs.Flush.{make}
 use Rattle.operations.specs.Parts.{create_parts}
-use Rattle.operations.specs.Done.{Done, gone}
+use Rattle.operations.specs.Done.{gone}
 use Rattle.operations.specs.Made.{RecordFor, Roomy, Makes, Enters}
 use Rattle.operations.proofs.Taking.{ids-within, seats-within}
 use Rattle.operations.proofs.Writing.{rows_within}

@@ -1,4 +1,4 @@
-use Rattle.std.proofs.Common.{rules, get_or, set, sym, refl, subst}
+use Rattle.std.proofs.Common.{rules, get_or, set, sym, subst}
 use Rattle.std.specs.Option.{ok_or}
 use Rattle.std.proofs.lemmas.Option.{slice_get-get_or}
 use Rattle.refusals.specs.declared.ChangeBufferError.TheVariants.{RowFull}
@@ -13,28 +13,28 @@ use Rattle.operations.proofs.inner.segments.pair_at.Goals as goal
 pub returns-clause-only : goal.returns-clause-only
 returns-clause-only g c =
     elim c.match-pair.branch [
-    | in-Meta w ↦ subst (λ t. RowsOnly c.args.tables.now t) (sym w.tables-is) (record { memory = search rules; spans = refl; span_meta = refl; span_metrics = refl; strings = refl; defaults = refl })
-    | in-Metric w ↦ subst (λ t. RowsOnly c.args.tables.now t) (sym w.tables-is) (record { memory = search rules; spans = refl; span_meta = refl; span_metrics = refl; strings = refl; defaults = refl })
-  ]
+      | in-Meta w ↦ subst (λ t. RowsOnly c.args.tables.now t) (sym w.tables-is) (search rules)
+      | in-Metric w ↦ subst (λ t. RowsOnly c.args.tables.now t) (sym w.tables-is) (search rules)
+    ]
 
 pub returns-clause-done : goal.returns-clause-done
 returns-clause-done g c =
     λ m o own.
-      let b = g.T.Text.bytes in
-      let f = c.args.found in
-      let ys = c.args.segments.now in
-      let m₀ = with_segments ys (with_tables c.args.tables.now m) in
-      elim c.match-pair.branch [
-        | in-Meta w ↦
-            rw (w.in-Meta.is, c.ok_or.ensures.value, w.ok_or-is)
-            (subst (λ ys'. Done b (write_segment f.id (meta (b w.in-Meta.key) (b w.in-Meta.value))) NoneMade m₀ (with_segments ys' (with_tables c.match-pair.tables m)) (ok_or w.insert_below.result (RowFull f.id))) (sym w.segments-is)
-            (subst (λ t'. Done b (write_segment f.id (meta (b w.in-Meta.key) (b w.in-Meta.value))) NoneMade m₀ (with_segments (set ys f.number (with_meta_head w.insert_below.new.head (get_or ys f.number w.index-segments-number.result))) (with_tables t' m)) (ok_or w.insert_below.result (RowFull f.id))) (sym w.tables-is)
-            (done_meta m₀ o f.id f.number own _ (slice_get-get_or ys f.number w.index-segments-number.result c.requires.row.within) b w.in-Meta.key w.in-Meta.value
-            w.insert_below.new.table w.insert_below.new.head w.insert_below.result w.insert_below.auto.table w.insert_below.ensures.cases)))
-        | in-Metric w ↦
-            rw (w.in-Metric.is, c.ok_or.ensures.value, w.ok_or-is)
-            (subst (λ ys'. Done b (write_segment f.id (metric (b w.in-Metric.key) w.in-Metric.bits)) NoneMade m₀ (with_segments ys' (with_tables c.match-pair.tables m)) (ok_or w.insert_below-in-Metric.result (RowFull f.id))) (sym w.segments-is)
-            (subst (λ t'. Done b (write_segment f.id (metric (b w.in-Metric.key) w.in-Metric.bits)) NoneMade m₀ (with_segments (set ys f.number (with_metrics_head w.insert_below-in-Metric.new.head (get_or ys f.number w.index-segments-number-in-Metric.result))) (with_tables t' m)) (ok_or w.insert_below-in-Metric.result (RowFull f.id))) (sym w.tables-is)
-            (done_metric m₀ o f.id f.number own _ (slice_get-get_or ys f.number w.index-segments-number-in-Metric.result c.requires.row.within) b w.in-Metric.key w.in-Metric.bits
-            w.insert_below-in-Metric.new.table w.insert_below-in-Metric.new.head w.insert_below-in-Metric.result w.insert_below-in-Metric.auto.table w.insert_below-in-Metric.ensures.cases)))
-      ]
+    let b = g.T.Text.bytes in
+    let f = c.args.found in
+    let ys = c.args.segments.now in
+    let m₀ = with_segments ys (with_tables c.args.tables.now m) in
+    elim c.match-pair.branch [
+      | in-Meta w ↦
+          rw (w.in-Meta.is, c.ok_or.ensures.value, w.ok_or-is)
+          (subst (λ ys'. Done b (write_segment f.id (meta (b w.in-Meta.key) (b w.in-Meta.value))) NoneMade m₀ (with_segments ys' (with_tables c.match-pair.tables m)) (ok_or w.insert_below.result (RowFull f.id))) (sym w.segments-is)
+          (subst (λ t'. Done b (write_segment f.id (meta (b w.in-Meta.key) (b w.in-Meta.value))) NoneMade m₀ (with_segments (set ys f.number (with_meta_head w.insert_below.new.head (get_or ys f.number w.index-segments-number.result))) (with_tables t' m)) (ok_or w.insert_below.result (RowFull f.id))) (sym w.tables-is)
+          (done_meta m₀ o f.id f.number own _ (slice_get-get_or ys f.number w.index-segments-number.result c.requires.row.within) b w.in-Meta.key w.in-Meta.value
+          w.insert_below.new.table w.insert_below.new.head w.insert_below.result w.insert_below.auto.table w.insert_below.ensures.cases)))
+      | in-Metric w ↦
+          rw (w.in-Metric.is, c.ok_or.ensures.value, w.ok_or-is)
+          (subst (λ ys'. Done b (write_segment f.id (metric (b w.in-Metric.key) w.in-Metric.bits)) NoneMade m₀ (with_segments ys' (with_tables c.match-pair.tables m)) (ok_or w.insert_below-in-Metric.result (RowFull f.id))) (sym w.segments-is)
+          (subst (λ t'. Done b (write_segment f.id (metric (b w.in-Metric.key) w.in-Metric.bits)) NoneMade m₀ (with_segments (set ys f.number (with_metrics_head w.insert_below-in-Metric.new.head (get_or ys f.number w.index-segments-number-in-Metric.result))) (with_tables t' m)) (ok_or w.insert_below-in-Metric.result (RowFull f.id))) (sym w.tables-is)
+          (done_metric m₀ o f.id f.number own _ (slice_get-get_or ys f.number w.index-segments-number-in-Metric.result c.requires.row.within) b w.in-Metric.key w.in-Metric.bits
+          w.insert_below-in-Metric.new.table w.insert_below-in-Metric.new.head w.insert_below-in-Metric.result w.insert_below-in-Metric.auto.table w.insert_below-in-Metric.ensures.cases)))
+    ]
