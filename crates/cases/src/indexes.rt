@@ -106,12 +106,9 @@ const FULL: [Step; 10] = [
 
 // How many of the ids below `n` are put, each for itself.
 fn put_below<I: Index>(index: &mut I, n: usize) -> usize {
-    for i in 0..n {
-        if index.put(i as u64, i).is_err() {
-            return i;
-        }
-    }
-    n
+    (0..n)
+        .find(|i| index.put(*i as u64, *i).is_err())
+        .unwrap_or(n)
 }
 
 // The number of the refusal, none where an index of that many places is made.
@@ -163,13 +160,10 @@ mod tests {
 
     #[test]
     fn three_first(rt: HostRuntime) -> Result<(), Fail> {
-        match three_stands_first() {
-            Ok(Some(entry)) => {
-                assert_eq!(rt; entry.id, 3);
-                Ok(())
-            },
-            _ => Err(Fail::new("none stands first")),
-        }
+        assert!(rt;
+            three_stands_first().is_ok_and(|first| first.is_some_and(|entry| entry.id == 3))
+        );
+        Ok(())
     }
 
     #[test]

@@ -1,4 +1,4 @@
-// Cases of the recorder: tables that are out of order in one way each, and the calls on a recorder set up.
+// Cases of the recorder: a call on tables that are in order, and on tables that are out of order in one way each.
 use index::Index;
 use layout::utils::TraceId;
 use recorder::strings::string_table_insert_one;

@@ -18,13 +18,8 @@ mod tests {
         assert_eq!(rt; full.byte_at(63), Some(7));
         assert_eq!(rt; full.byte_at(64), None);
         assert!(rt; !full.same(&none));
-        match ShortText::from_bytes(&bytes) {
-            Ok(_) => Err(Fail::new("65 bytes")),
-            Err(e) => {
-                assert_eq!(rt; e.number(), 15);
-                Ok(())
-            },
-        }
+        assert!(rt; ShortText::from_bytes(&bytes).is_err_and(|e| e.number() == 15));
+        Ok(())
     }
 
     #[test]

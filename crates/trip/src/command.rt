@@ -20,6 +20,7 @@ A SCRIPT has a call on each line; comments as above. The first call is the set-u
   span ID, segment ID, handed NUMBER, numbers         questions";
 
 // A message was printed, or nothing could be; the program ends with status 1.
+// It holds nothing of what it comes from, so its `From` is by hand.
 #[derive(Drop)]
 pub struct Failed;
 

@@ -1,4 +1,5 @@
-// The program `trip`: prints the operations of change buffers that stand in files as hexadecimal text.
+// The program `trip`: prints the operations of change buffers that stand in files as hexadecimal text, and makes the calls of
+// scripts.
 #![tactic(auto)]
 
 mod command;

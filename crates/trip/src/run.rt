@@ -14,7 +14,8 @@ use std::fmt;
 use tables::segment::Segment;
 use tables::settings::Settings;
 use tables::span::{Mark, Span};
-use tables::tables::Tables;
+use tables::tables::{MOST_DEFAULTS, Tables};
+use tables::{segment, span};
 use texts::Text;
 use texts::short::ShortText;
 use vec_map::head::Head;
@@ -110,13 +111,13 @@ impl Recorder {
         let places = sizes.spans.saturating_mul(2).clamp(1, 65536);
         Ok(Recorder {
             spans: (0..sizes.spans).map(|_| blank_span()).collect(heap)?,
-            span_meta: rows(heap, sizes.spans, 99, none)?,
-            span_metrics: rows(heap, sizes.spans, 54, 0)?,
+            span_meta: rows(heap, sizes.spans, span::TEXT_ROW, none)?,
+            span_metrics: rows(heap, sizes.spans, span::NUMBER_ROW, 0)?,
             segments: (0..sizes.segments).map(|_| blank_segment()).collect(heap)?,
-            segment_meta: rows(heap, sizes.segments, 32, none)?,
-            segment_metrics: rows(heap, sizes.segments, 16, 0)?,
+            segment_meta: rows(heap, sizes.segments, segment::TEXT_ROW, none)?,
+            segment_metrics: rows(heap, sizes.segments, segment::NUMBER_ROW, 0)?,
             strings: vec![in heap; None; sizes.strings]?,
-            defaults: rows(heap, 1, 32, none)?,
+            defaults: rows(heap, 1, MOST_DEFAULTS, none)?,
             settings: Settings {
                 service: none,
                 language: none,

@@ -118,7 +118,7 @@ pub enum BadScript {
     NoSetUp,
     #[error("line {0}: there can be one setup only")]
     SetUpAgain(usize),
-    // The tables would have more places than can be counted, or no index has so many.
+    // The tables would have more places than can be counted, or there is no memory for the index.
     #[error("no memory for the tables")]
     TooLarge,
     #[error("no memory for the tables")]
@@ -201,9 +201,7 @@ fn set_up(words: &mut SplitWhitespace<'_>) -> Result<Call, BadLine> {
 fn defaults(heap: Global, words: &mut SplitWhitespace<'_>) -> Result<Call, BadLine> {
     let mut pairs = Vec::new(heap);
     for word in words {
-        let Some((key, value)) = word.split_once('=') else {
-            return Err(BadLine::NoText(Part::Pair));
-        };
+        let (key, value) = word.split_once('=').ok_or(BadLine::NoText(Part::Pair))?;
         pairs.push((made(key, Part::Key)?, made(value, Part::Value)?))?;
     }
     Ok(Call::Defaults(pairs))
