@@ -30,7 +30,7 @@ impl MakeError {
     }
 }
 
-// Where there is no memory, that is why.
+// Where there is no memory, that is why. By hand: a `From` that is derived stands in no clause.
 impl From<AllocError> for MakeError {
     ghost from_gives = { λ _ e. e ≡ Memory };
 
@@ -39,7 +39,8 @@ impl From<AllocError> for MakeError {
     }
 }
 
-// No id stands twice, a search reaches each, and `taken` of the places hold one: counted, so that `count` need not look at all.
+// No id stands twice, a search reaches each, and `taken` of the places hold one: a count beside the places, since to find it
+// `count` would have to look at all of them.
 #[derive(Drop)]
 pub struct HashedIndex {
     places: Vec<Option<Entry>>,
@@ -64,13 +65,15 @@ impl HashedIndex {
         Ok(HashedIndex { places, taken: 0 })
     }
 
-    // Where an id stands. The way of a search is a rule of this project, so no map of the library stands here.
+    // Where an id stands, or where it may be put. The way of a search is a rule of this project, so no map of the library
+    // stands here.
     fn seek(&self, id: u64) -> Spot
         ensures { Spotted self.now.places.items id result }
     {
         let n = self.places.len();
         let from = start(n, id);
-        // A chain of two ranges would be no plainer: `cut_off` goes the same way round, and compares its steps.
+        // From the id's first place to the end and on from the start, counted in steps as in `cut_off`; the two ranges one
+        // after the other would be no plainer.
         for step in 0..n {
             let i = along(n, from, step);
             let Some(e) = self.places[i] else {
@@ -99,19 +102,16 @@ impl Index for HashedIndex {
     }
 
     fn put(&mut self, id: u64, number: usize) -> Result<Option<usize>, Full> {
-        let new = Some(Entry { id, number });
-        match self.seek(id) {
-            Spot::At(i, former) => {
-                self.places[i] = new;
-                Ok(Some(former))
-            }
+        let (i, former) = match self.seek(id) {
+            Spot::At(i, former) => (i, Some(former)),
             Spot::Free(i) => {
-                self.places[i] = new;
                 self.taken += 1;
-                Ok(None)
+                (i, None)
             }
-            Spot::Nowhere => Err(Full),
-        }
+            Spot::Nowhere => return Err(Full),
+        };
+        self.places[i] = Some(Entry { id, number });
+        Ok(former)
     }
 
     fn remove(&mut self, id: u64) -> Option<usize> {

@@ -10,7 +10,7 @@ use crate::position::Position;
 use std::alloc::Global;
 
 // What a byte of the text is, looked at alone.
-#[derive(Clone, Copy)]
+#[derive(Clone, Copy, PartialEq, Eq, Debug)]
 enum Mark {
     Blank,
     Newline,
@@ -19,8 +19,8 @@ enum Mark {
     Other,
 }
 
-// Where the reader stands.
-#[derive(Clone, Copy)]
+// Where the reader stands between two bytes. A closure for each state would be no plainer than a value and `step`.
+#[derive(Clone, Copy, PartialEq, Eq, Debug)]
 enum Mode {
     Outside,
     Comment,
@@ -29,7 +29,7 @@ enum Mode {
 }
 
 // What the reader does at a byte of the text. No `Result`: both faults take their places from the whole text.
-#[derive(Clone, Copy)]
+#[derive(Clone, Copy, PartialEq, Eq, Debug)]
 enum Step {
     To(Mode),
     Byte(u8),
