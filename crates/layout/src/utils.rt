@@ -24,7 +24,7 @@ pub trait FromBytes: Sized {
 }
 
 // The 128 bits of a trace id.
-#[derive(Clone, Copy, PartialEq, Eq, Debug)]
+#[derive(Clone, Copy, PartialEq, Eq, Debug, Default)]
 pub struct TraceId {
     pub low: u64,
     pub high: u64,

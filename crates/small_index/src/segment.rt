@@ -22,7 +22,7 @@ impl Overflow {
         ensures { result.len ≡ 0 }
     {
         Overflow {
-            entries: [Entry { id: 0, number: 0 }; 255],
+            entries: [Entry::default(); 255],
             len: 0,
         }
     }

@@ -10,6 +10,7 @@ use crate::error::NoSuchText;
 
 #[derive(Clone, Copy, PartialEq, Eq, Debug)]
 pub struct ListedText {
+    // A rule of this project: a number into the list.
     number: u8,
     ghost known: { number < 18 },
 }
@@ -88,6 +89,7 @@ impl Text for ListedText {
         self.word().len()
     }
 
+    // Each kind has the five functions itself: a rule of this project.
     fn byte_at(&self, place: usize) -> Option<u8> {
         byte_of(self.word(), place)
     }

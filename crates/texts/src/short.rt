@@ -79,6 +79,7 @@ impl Text for ShortText {
         self.count
     }
 
+    // Each kind has the five functions itself: a rule of this project.
     fn byte_at(&self, place: usize) -> Option<u8> {
         byte_of(self.as_bytes(), place)
     }

@@ -7,8 +7,8 @@ use crate::key::Key;
 use crate::{VecMap, row};
 
 impl<'a, K: Key, V: Copy> VecMap<'a, K, V> {
-    #[tactic(auto, unfolding(crate::specs::Rows::insert_row, crate::specs::Rows::insert_answer))]
     // One pair more at the end, which clears the mark. A full row hands the pair back and stays as it is.
+    #[tactic(auto, unfolding(crate::specs::Rows::insert_row, crate::specs::Rows::insert_answer))]
     pub fn insert(&mut self, key: K, value: V) -> Result<(), (K, V)>
         ensures place { self.new.pairs.ghost_name ≡ self.old.pairs.ghost_name }
         ensures test { is_ok result ≡ not (full (row_of self.old)) }

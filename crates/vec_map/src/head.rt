@@ -4,5 +4,6 @@
 #[derive(Clone, Copy, Debug, PartialEq, Eq, Default)]
 pub struct Head {
     pub count: usize,
+    // The mark of a row is a rule of this project.
     pub deduped: bool,
 }

@@ -1,5 +1,5 @@
 // What a pair map does on the memory of its row.
-ghost use Rattle.std.specs.Prelude.{◌≡◌, List, ◌++◌, length, take, drop, Ok, Err, if◌then◌else◌, nat_lt, slice_set};
+ghost use Rattle.std.specs.Prelude.{◌≡◌, List, ◌++◌, length, take, drop};
 ghost use Rattle.std.specs.Option.{option_map};
 ghost use Rattle.vec_map.specs.Rows.{last_value, known, firsts, without_repeats, deduped_room};
 

@@ -1,5 +1,5 @@
 // Rows of a flat table: row `at` of a table with rows of `width` pairs, and the count and mark that belong to it.
-ghost use Rattle.std.specs.Prelude.{◌≡◌, ℕ, ◌+◌, ◌*◌, ◌<◌, ◌≤◌, not, ◌&&◌, length, is_ok, MatchOption};
+ghost use Rattle.std.specs.Prelude.{◌≡◌, ◌+◌, ◌*◌, ◌<◌, ◌≤◌, not, ◌&&◌, is_ok, MatchOption};
 ghost use Rattle.vec_map.specs.Rows.{full, insert_row, dedup_row};
 ghost use Rattle.vec_map.specs.Tables.{headed, row, in_table, changed, changed_row, OthersStay};
 
@@ -33,9 +33,6 @@ pub fn dedup_row<K: Key, V: Copy>(row: &mut [(K, V)], head: &mut Head)
     *head = map.head();
 }
 
-// The table goes with its width, here and below: a struct over both would need a clause at each change that it is the same
-// memory still.
-
 // Where a row begins, none where it is not wholly in a table of `len` pairs.
 fn row_start(width: usize, at: usize, len: usize) -> Option<usize>
     ensures { MatchOption result (len < at * width + width) (λ from. (from ≡ at * width) × (at * width + width ≤ len)) }
@@ -46,7 +43,8 @@ fn row_start(width: usize, at: usize, len: usize) -> Option<usize>
 }
 
 // One pair more in row `at`; every other row stays as it is. A full row, or one that is not in the table, hands the
-// pair back.
+// pair back. (The table goes with its width, here and in `dedup_at`: a struct over both would need a clause at each change
+// that it is the same memory still.)
 pub fn insert_at<K: Key, V: Copy>(
     table: &mut [(K, V)],
     width: usize,

@@ -71,10 +71,7 @@ impl Index for SmallSegmentMap {
     }
 
     fn count(&self) -> usize {
-        match self.first {
-            Some(_) => self.overflow.len + 1,
-            None => 0,
-        }
+        self.first.map_or(0, |_| self.overflow.len + 1)
     }
 
     fn capacity(&self) -> usize {
