@@ -1,11 +1,12 @@
 // Operands of an operation: what each is called, how it lies in the buffer, and its value.
-ghost use Rattle.std.specs.Prelude.{◌≡◌};
+ghost use Rattle.std.specs.Prelude.{Some};
 ghost use Rattle.layout.specs.Reads.{Reads, held};
 ghost use Rattle.decode.specs.Operands.{label_name, meant, size};
 
 use layout::buffer::ChangeBuffer;
 use layout::utils::TraceId;
 use refusals::Result;
+use std::fmt;
 
 // What an operand is called.
 #[derive(Clone, Copy, PartialEq, Eq, Debug)]
@@ -26,12 +27,12 @@ pub enum Label {
     Count,
 }
 
-impl Label {
-    // In the words of a listing; the derived `Debug` writes those of the code.
-    pub fn name(self) -> &'static str
-        ensures value { result.now ≡ label_name self }
-    {
-        match self {
+// In the words of a listing; the derived `Debug` writes those of the code.
+impl fmt::Display for Label {
+    ghost output = { λ l. Some (label_name l) };
+
+    fn fmt<W: fmt::Write>(&self, f: &mut fmt::Formatter<W>) -> fmt::Result {
+        f.write_str(match self {
             Label::Trace => "trace",
             Label::Segment => "segment",
             Label::Parent => "parent",
@@ -46,7 +47,7 @@ impl Label {
             Label::Error => "error",
             Label::Origin => "origin",
             Label::Count => "count",
-        }
+        })
     }
 }
 

@@ -21,7 +21,7 @@ pub struct Operation {
 }
 
 // The operation at `index`, which moves past it; it stays at a read that does not fit. The index goes beside the buffer,
-// here and below, as `ChangeBuffer::read` takes it.
+// here and below: in a struct of both, every contract would have to say that the buffer stays.
 pub fn read_operation(
     heap: Global,
     buffer: &ChangeBuffer,

@@ -7,7 +7,7 @@ use crate::operand::{Field, Kind, Label};
 use layout::operation::OpCode;
 
 // The operands of an opcode.
-#[derive(Clone, Copy)]
+#[derive(Clone, Copy, PartialEq, Eq, Debug)]
 pub enum Row {
     // These once.
     Once(&'static [Field]),

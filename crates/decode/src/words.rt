@@ -23,7 +23,7 @@ impl fmt::Display for Value {
 
 impl fmt::Display for Operand {
     fn fmt<W: fmt::Write>(&self, f: &mut fmt::Formatter<W>) -> fmt::Result {
-        write!(f, "{} {}", self.label.name(), self.value)
+        write!(f, "{} {}", self.label, self.value)
     }
 }
 
