@@ -39,11 +39,11 @@ impl From<AllocError> for MakeError {
     }
 }
 
-// No id stands twice, a search reaches each, and `taken` of the places hold one: a count beside the places, since to find it
-// `count` would have to look at all of them.
+// No id stands twice, a search reaches each, and `taken` of the places hold one.
 #[derive(Drop)]
 pub struct HashedIndex {
     places: Vec<Option<Entry>>,
+    // Beside the places, so that `count` need not look at all of them.
     taken: usize,
     ghost some: { 0 < vec_len places },
     ghost few: { vec_len places ≤ 65536 },
@@ -72,8 +72,7 @@ impl HashedIndex {
     {
         let n = self.places.len();
         let from = start(n, id);
-        // From the id's first place to the end and on from the start, counted in steps as in `cut_off`; the two ranges one
-        // after the other would be no plainer.
+        // By steps from the first place, round the end, as `cut_off` goes; a chain of two ranges would be no plainer.
         for step in 0..n {
             let i = along(n, from, step);
             let Some(e) = self.places[i] else {

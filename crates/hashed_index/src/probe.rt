@@ -6,8 +6,7 @@ ghost use Rattle.hashed_index.specs.Spots.{Cut};
 
 use index::entry::Entry;
 
-// Where an id stands, with its number, or where it may be put. An enum of its own: three answers, and no Option or Result
-// has three.
+// Where an id stands, with its number, or where it may be put: three answers, and no Option or Result has three.
 #[derive(Clone, Copy, PartialEq, Eq, Debug)]
 pub(crate) enum Spot {
     At(usize, usize),
