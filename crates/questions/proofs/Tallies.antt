@@ -1,7 +1,8 @@
 -- How many records have a mark, and how many an index holds.
-use Rattle.std.proofs.Common.{◌≡◌, ℕ, zero, suc, ◌+◌, Bool, true, false, cond, eqb, List, [], ◌∷◌, length, take, is_some, Some, None, Option, sym, refl, ap, ◌∙◌, add-zero, add-one, arith}
+use Rattle.std.proofs.Common.{◌≡◌, ℕ, zero, suc, ◌+◌, Bool, true, false, cond, eqb, List, [], ◌∷◌, length, take, count_by, is_some, Some, None, Option, sym, refl, ap, ◌∙◌, add-zero, add-one, arith}
 use Rattle.std.specs.List.{slice_get}
 use Rattle.std.proofs.lemmas.List.{take_all}
+use Rattle.std.proofs.lemmas.List.Recursion.{is_count_by}
 use Rattle.std.proofs.lemmas.Option.{slice_get_past}
 use Rattle.std.proofs.lemmas.Bool.{eqb-true}
 use Rattle.std.proofs.lemmas.Bool.Decides.{Decides-eqb}
@@ -13,13 +14,17 @@ use Rattle.tables.specs.declared.span.Mark.{Mark}
 use Rattle.tables.specs.declared.span.Mark.TheVariants.{Free, Live, HandedOut}
 use Rattle.tables.specs.declared.span.Span.{Span}
 use Rattle.tables.specs.Store.{is_live, is_handed, is_free, only, chained, tally, key_at, live, handed, free, live_key}
-use Rattle.questions.specs.Questions.{one, and_one, tallies}
+use Rattle.questions.specs.Questions.{tallies}
+
+-- ---- the library's count of those that pass a test
+pub count_tally : {A : Type 0} (t : A → Bool) (xs : List A) → count_by t xs ≡ tally t xs
+count_tally t xs = sym (is_count_by (tally t) t refl (λ y ys. elim (t y) as (λ b. cond b (suc (tally t ys)) (tally t ys) ≡ cond b (1 + tally t ys) (tally t ys)) [ true ↦ omega arith | false ↦ refl ]) xs)
 
 -- ---- one record more
-module _ {A : Type 0} (t : A → Bool) where
-  one_only : (x : A) → one (is_some (only t (Some x))) ≡ one (t x)
-  one_only x = elim (t x) as (λ b. one (is_some (cond b (Some x) None)) ≡ one b) [ true ↦ refl | false ↦ refl ]
+abbrev one : Bool → ℕ
+one b = cond b 1 0
 
+module _ {A : Type 0} (t : A → Bool) where
   tally-step : (xs : List A) (i : ℕ) → tally t (take (suc i) xs) ≡ tally t (take i xs) + one (is_some (only t (slice_get xs i)))
   tally-step [] zero = refl
   tally-step [] (suc i) = refl
@@ -29,11 +34,6 @@ module _ {A : Type 0} (t : A → Bool) where
       let more = tally-step xs i in
       elim (t x) as (λ b. cond b (suc (tally t (take (suc i) xs))) (tally t (take (suc i) xs)) ≡ cond b (suc (tally t (take i xs))) (tally t (take i xs)) + one (is_some (only t (slice_get xs i))))
       [ true ↦ omega (arith, more) | false ↦ more ]
-
-  pub tally-more : (xs : List A) (i : ℕ) (x : A) → slice_get xs i ≡ Some x → tally t (take (i + 1) xs) ≡ tally t (take i xs) + one (t x)
-  tally-more xs i x e =
-      ap (λ n. tally t (take n xs)) (add-one i) ∙ tally-step xs i
-      ∙ ap (λ o. tally t (take i xs) + one (is_some (only t o))) e ∙ ap (λ n. tally t (take i xs) + n) (one_only x)
 
 -- ---- each mark is one of three
 sum_cons : (k : Mark) (l h f n : ℕ) → l + h + f ≡ n
@@ -46,13 +46,6 @@ module _ {T : Type 0} where
   pub tallies-sum : (xs : List (Span T)) → (tallies xs).0 + (tallies xs).1 + (tallies xs).2 ≡ length xs
   tallies-sum [] = refl
   tallies-sum (x ∷ xs) = sum_cons x.mark (tally live xs) (tally handed xs) (tally free xs) (length xs) (tallies-sum xs)
-
-  pub tallies-more : (xs : List (Span T)) (i : ℕ) (x : Span T) → slice_get xs i ≡ Some x → tallies (take (i + 1) xs) ≡ and_one (tallies (take i xs)) x.mark
-  tallies-more xs i x e =
-      let l = tally-more live xs i x e in
-      let h = tally-more handed xs i x e in
-      let f = tally-more free xs i x e in
-      cc
 
 -- ---- as many as the index holds
 module _ {A : Type 0} (key : A → Option ℕ) (t : A → Bool) (same : (x : A) → is_some (key x) ≡ t x) where

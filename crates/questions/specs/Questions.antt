@@ -1,5 +1,5 @@
 -- What the questions answer: by the memory alone, and as the plain book's answer.
-use Rattle.std.specs.Prelude.{◌≡◌, ℕ, ◌+◌, ◌<◌, Bool, if◌then◌else◌, ◌⊎◌, List, length, Some, None, Ok, Err, Option, Result, ◌≢◌}
+use Rattle.std.specs.Prelude.{◌≡◌, ℕ, ◌<◌, Bool, if◌then◌else◌, ◌⊎◌, List, length, Some, None, Ok, Err, Option, Result, ◌≢◌}
 use Rattle.std.specs.Option.{ok_or}
 use Rattle.std.specs.List.{slice_get}
 use Rattle.index.specs.declared.entry.Entry.{Entry}
@@ -12,9 +12,10 @@ use Rattle.book.specs.Book as book
 use Rattle.book.specs.Calls.{Call, step}
 use Rattle.book.specs.Refusals.{because, out_of_order, one_span, one_segment, three_numbers, Answer, refused, shown}
 use Rattle.tables.specs.declared.span.Mark.{Mark}
+use Rattle.tables.specs.declared.span.Mark.TheVariants.{Free, Live, HandedOut}
 use Rattle.tables.specs.declared.span.Span.{Span}
 use Rattle.tables.specs.declared.segment.Segment.{Segment}
-use Rattle.tables.specs.Store.{Store, Rowed, is_live, is_handed, is_free, tally, only, key_at, live, handed, free, live_key, span_at, segment_at}
+use Rattle.tables.specs.Store.{Store, Rowed, tally, only, key_at, live, handed, free, live_key, span_at, segment_at}
 use Rattle.tables.specs.InOrder.{InOrder}
 use Rattle.tables.specs.Shows.{LikeSpan, LikeSegment, Shows}
 use Rattle.recorder.specs.Answers.{refusal}
@@ -43,14 +44,6 @@ LiveRecord xs id (Err e) = e ≡ SpanNotFound id → RecordOf live_key xs id Non
 abbrev pub Three : Type 0
 Three = ℕ × ℕ × ℕ
 
--- one or none
-abbrev pub one : Bool → ℕ
-one b = if b then 1 else 0
-
--- these numbers with one more record of a mark
-abbrev pub and_one : Three → Mark → Three
-and_one n mark = (n.0 + one (is_live mark), n.1 + one (is_handed mark), n.2 + one (is_free mark))
-
 module _ {T : Type 0} where
   -- is the record with a number marked handed out? None is past the last
   abbrev pub handed_at : List (Span T) → ℕ → Bool
@@ -59,6 +52,12 @@ module _ {T : Type 0} where
   -- accepted where that record is marked handed out, and refused with 5 where it is not
   abbrev pub handed_number : ℕ → List (Span T) → Result (Unit {0}) ChangeBufferError
   handed_number n xs = if handed_at xs n then Ok tt else Err (NotHandedOut n)
+
+  -- does a record have this mark?
+  abbrev pub marked : Mark → Span T → Bool
+  marked Live x = live x
+  marked HandedOut x = handed x
+  marked Free x = free x
 
   -- how many records are marked live, handed out and free
   abbrev pub tallies : List (Span T) → Three

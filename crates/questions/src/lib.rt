@@ -1,12 +1,12 @@
 // The questions: they are lent all tables and both indexes, and change nothing.
 #![tactic(auto)]
 
-ghost use Rattle.std.specs.Prelude.{◌≡◌, ◌+◌, ◌^◌, ◌<◌, length, IfOk, Ok, OnOk};
+ghost use Rattle.std.specs.Prelude.{◌≡◌, ◌+◌, ◌<◌, length, IfOk, Ok, OnOk, count_by};
 ghost use Rattle.index.specs.Held.{at};
 ghost use Rattle.book.specs.Calls.{get_span, get_segment, get_handed, get_numbers};
 ghost use Rattle.tables.specs.Lent.{passed};
 ghost use Rattle.tables.specs.Store.{standing_key};
-ghost use Rattle.questions.specs.Questions.{Answers, LiveRecord, OneSegment, OneSpan, RecordOf, ThreeNumbers, and_one, handed_at, handed_number, live_number, tallies};
+ghost use Rattle.questions.specs.Questions.{Answers, LiveRecord, OneSegment, OneSpan, RecordOf, ThreeNumbers, handed_at, handed_number, live_number, marked, tallies};
 
 use index::Index;
 use refusals::ChangeBufferError;
@@ -104,25 +104,19 @@ pub fn get_numbers<T: Text, S: Index, G: Index>(
     Ok(count_marks(tables.spans))
 }
 
+// A tuple of three counts: the fixed form of this answer.
 fn count_marks<T: Text>(spans: &[Span<T>]) -> (usize, usize, usize)
     ensures { result ≡ tallies spans.now }
 {
-    let mut numbers = (0, 0, 0);
-    for span in spans {
-        numbers = and_one(numbers, span.mark);
-    }
-    numbers
+    (
+        count_of(spans, Mark::Live),
+        count_of(spans, Mark::HandedOut),
+        count_of(spans, Mark::Free),
+    )
 }
 
-// The numbers with one more record of this mark.
-fn and_one(numbers: (usize, usize, usize), mark: Mark) -> (usize, usize, usize)
-    requires { numbers.0 + numbers.1 + numbers.2 + 1 < 2 ^ 64 }
-    ensures { result ≡ and_one numbers mark }
+fn count_of<T: Text>(spans: &[Span<T>], mark: Mark) -> usize
+    ensures { result ≡ count_by (λ x. marked mark x) spans.now }
 {
-    let (live, handed_out, free) = numbers;
-    match mark {
-        Mark::Live => (live + 1, handed_out, free),
-        Mark::HandedOut => (live, handed_out + 1, free),
-        Mark::Free => (live, handed_out, free + 1),
-    }
+    spans.iter().filter(|span| span.mark == mark).count()
 }
