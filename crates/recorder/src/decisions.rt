@@ -32,9 +32,7 @@ pub fn set_decisions<T: Text, S: Index, G: Index>(
         (answer result) }
 {
     check_order(tables, segments, settings, by_id, by_segment)?;
-    let Some(place) = by_segment.find(id) else {
-        return Err(ChangeBufferError::NoSegment(id));
-    };
+    let place = by_segment.find(id).ok_or(ChangeBufferError::NoSegment(id))?;
     decide(&mut segments[place], sampling);
     Ok(())
 }
