@@ -1,12 +1,8 @@
 -- What stands at a number in a list.
 use Rattle.std.proofs.Common.{◌≡◌, ℕ, zero, suc, ◌<◌, List, [], ◌∷◌, length, set, Some, None, Option, refl, ap, le_of_suc-le-suc, not-suc-le-zero}
 use Rattle.std.specs.List.{slice_get}
-use Rattle.std.proofs.lemmas.Option.{none-some, slice_get_within}
+use Rattle.std.proofs.lemmas.Option.{none-some}
 use Rattle.tables.specs.Store.{chained}
-
--- a number at which something stands is below the length
-pub nth_within : {A : Type 0} (xs : List A) (r : ℕ) (x : A) → slice_get xs r ≡ Some x → r < length xs
-nth_within xs r x e = slice_get_within xs r x e
 
 -- what stands there after a write
 pub nth_set-same : {A : Type 0} (xs : List A) (r : ℕ) (x : A) → r < length xs → slice_get (set xs r x) r ≡ Some x

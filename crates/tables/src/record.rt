@@ -57,10 +57,7 @@ impl<T: Text> Record for Span<T> {
     const NUMBER_ROW: usize = span::NUMBER_ROW;
 
     fn key(&self) -> Option<u64> {
-        match self.mark {
-            Mark::Live => Some(self.id),
-            Mark::Free | Mark::HandedOut => None,
-        }
+        (self.mark == Mark::Live).then_some(self.id)
     }
 
     fn keeps_limits(&self) -> bool {
@@ -92,7 +89,7 @@ impl<T: Text> Record for Segment<T> {
     const NUMBER_ROW: usize = segment::NUMBER_ROW;
 
     fn key(&self) -> Option<u64> {
-        if self.count > 0 { Some(self.id) } else { None }
+        (self.count > 0).then_some(self.id)
     }
 
     fn keeps_limits(&self) -> bool {
