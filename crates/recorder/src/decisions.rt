@@ -24,6 +24,7 @@ pub fn set_decisions<T: Text, S: Index, G: Index>(
     id: u64,
     sampling: Decisions,
 ) -> refusals::Result<()>
+    // A relation of the tables before the call and after it, which no type can hold.
     ensures memory { SameMemory tables.old tables.new }
     ensures call { Changes T.bytes
         (decisions id sampling.rule sampling.limit sampling.agent) (decided_in id sampling result)

@@ -95,7 +95,7 @@ pub fn check_order<T: Text, S: Index, G: Index>(
     }
 }
 
-// Memory in order, and no other, shows a book.
+// The same question under its other meaning, a law for readers: memory in order, and no other, shows a book.
 pub fn shows_a_book<T: Text, S: Index, G: Index>(
     tables: &Tables<'_, T>,
     segments: &[Segment<T>],

@@ -99,8 +99,8 @@ impl<T: Text> Record for Segment<T> {
 }
 
 // Whether each record keeps its limits, and the index holds the keys of those in use and nothing else. It goes once over
-// the records, and asks the index once for each that is in use. (`holds` of the indexes asks this of a list of ids; a list
-// of the keys would need a heap.)
+// the records, and asks the index once for each that is in use.
+// `holds` of the indexes asks ids alone: with limits, a second pass or a closure that tells both would be no plainer.
 pub fn kept_in<R: Record, I: Index>(records: &[R], index: &I) -> bool
     ensures { IsTrue result ↔ (KeptIn R.key_of R.limits records.now (I.content index.now).held) }
 {

@@ -18,12 +18,12 @@ pub const NUMBER_ROW: usize = 16;
 #[derive(Drop)]
 pub struct Segment<T> {
     pub id: u64,
-    // The creations that name it, less the spans charged to it.
+    // The creations that name it, less the spans charged to it; by a rule of the project 0 means that none stands.
     pub count: u32,
     pub meta: Head,
     pub metrics: Head,
     pub origin: Option<T>,
-    // The sampling decisions, which by a rule of the project lie in the record itself.
+    // The sampling decisions: by a rule of the project the record holds the three optional floats itself.
     pub rule: Option<f64>,
     pub limit: Option<f64>,
     pub agent: Option<f64>,

@@ -26,7 +26,7 @@ pub const NUMBER_LIMIT: usize = 32;
 pub struct Span<T> {
     pub mark: Mark,
     pub id: u64,
-    // The id of its segment.
+    // The id of its segment. What free records hold is open, so a free one may keep the number of the next one here.
     pub segment: u64,
     pub meta: Head,
     pub metrics: Head,
