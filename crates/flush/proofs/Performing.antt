@@ -23,7 +23,7 @@ use Rattle.recorder.specs.Answers.{refusal}
 use Rattle.recorder.specs.Strings.{with_strings}
 use Rattle.operations.specs.declared.values.PairKind.{PairKind}
 use Rattle.operations.specs.declared.values.PairKind.TheVariants.{Meta, Metric}
-use Rattle.operations.specs.Parts.{HasRow, TextsOnly, create_parts}
+use Rattle.operations.specs.Parts.{HasRow, FieldsOnly, PairOnly, RowsOnly, SegmentPairOnly, SpansOnly, TextsOnly, create_parts}
 use Rattle.operations.specs.Done.{ending, NoneMade, SegmentRows, gone}
 use Rattle.operations.proofs.Taking.{ids-within, seats-within}
 use Rattle.operations.proofs.Writing.{rows_within, span-within, text_row-within, number_row-within}
@@ -50,6 +50,20 @@ module _ {T : Type 0} (t : Tables T) (ys : List (Segment T)) (s : Settings T) (i
   pub segment_rows : (k : PairKind) → SegmentRows k t ys seats.held
   segment_rows Meta id r e = let w = seats-within _ o id r e in record { within = w; row = rows_within r (length ys) 32 _ w o.segment_lengths.text_rows }
   segment_rows Metric id r e = let w = seats-within _ o id r e in record { within = w; row = rows_within r (length ys) 16 _ w o.segment_lengths.number_rows }
+
+-- ---- what changes at most
+
+module _ {T : Type 0} (t n : Tables T) where
+  pub pair_only : (k : PairKind) → PairOnly k t n → SpansOnly t n
+  pair_only Meta o = record { memory = o.memory; segment_meta = o.segment_meta; segment_metrics = o.segment_metrics; strings = o.strings; defaults = o.defaults }
+  pair_only Metric o = record { memory = o.memory; segment_meta = o.segment_meta; segment_metrics = o.segment_metrics; strings = o.strings; defaults = o.defaults }
+
+  pub field_only : FieldsOnly t n → SpansOnly t n
+  field_only o = record { memory = o.memory; segment_meta = o.segment_meta; segment_metrics = o.segment_metrics; strings = o.strings; defaults = o.defaults }
+
+  pub segment_pair_only : (k : PairKind) → SegmentPairOnly k t n → RowsOnly t n
+  segment_pair_only Meta o = record { memory = o.memory; spans = o.spans; span_meta = o.span_meta; span_metrics = o.span_metrics; strings = o.strings; defaults = o.defaults }
+  segment_pair_only Metric o = record { memory = o.memory; spans = o.spans; span_meta = o.span_meta; span_metrics = o.span_metrics; strings = o.strings; defaults = o.defaults }
 
 -- ---- a create in the memory that was lent
 

@@ -15,7 +15,9 @@ use Rattle.std.proofs.lemmas.Option.{none-some, slice_get_within}
 use Rattle.recorder.specs.Answers.{refusal}
 use Rattle.tables.specs.declared.tables.Tables.{Tables}
 use Rattle.tables.proofs.Memory.{memory_kept, memory_then}
-use Rattle.operations.specs.Parts.{SpansOnly}
+use Rattle.operations.specs.declared.values.PairKind.{PairKind}
+use Rattle.operations.specs.declared.values.PairKind.TheVariants.{Meta, Metric}
+use Rattle.operations.specs.Parts.{PairOnly, SegmentPairOnly}
 use Rattle.operations.specs.Done.{Unused, RowMoved, RowsMoved, RecordsKept, SpansKept, SegmentsKept, gone}
 use Rattle.operations.proofs.Creating.{at-number}
 use Rattle.operations.proofs.Keeping.{records-same}
@@ -63,13 +65,27 @@ module _ {A : Type 0} (unused : A → Bool) (meta metrics : A → Head) (Made Ma
 -- ---- tables
 
 -- nothing changed
-pub only_start : {T : Type 0} (t : Tables T) → SpansOnly t t
-only_start t = record { memory = memory_kept t; segment_meta = refl; segment_metrics = refl; strings = refl; defaults = refl }
+pub only_start : {T : Type 0} (k : PairKind) (t : Tables T) → PairOnly k t t
+only_start Meta t = record { memory = memory_kept t; span_metrics = refl; segment_meta = refl; segment_metrics = refl; strings = refl; defaults = refl }
+only_start Metric t = record { memory = memory_kept t; span_meta = refl; segment_meta = refl; segment_metrics = refl; strings = refl; defaults = refl }
 
--- spans and their rows alone changed, and then again
-pub only_then : {T : Type 0} (t t₁ t₂ : Tables T) → SpansOnly t t₁ → SpansOnly t₁ t₂ → SpansOnly t t₂
-only_then t t₁ t₂ a b = record {
+pub segment_only_start : {T : Type 0} (k : PairKind) (t : Tables T) → SegmentPairOnly k t t
+segment_only_start Meta t = record { memory = memory_kept t; spans = refl; span_meta = refl; span_metrics = refl; segment_metrics = refl; strings = refl; defaults = refl }
+segment_only_start Metric t = record { memory = memory_kept t; spans = refl; span_meta = refl; span_metrics = refl; segment_meta = refl; strings = refl; defaults = refl }
+
+-- spans and their rows for pairs of one kind alone changed, and then again
+pub only_then : {T : Type 0} (k : PairKind) (t t₁ t₂ : Tables T) → PairOnly k t t₁ → PairOnly k t₁ t₂ → PairOnly k t t₂
+only_then Meta t t₁ t₂ a b = record {
   memory = memory_then t t₁ t₂ a.memory b.memory;
+  span_metrics = b.span_metrics ∙ a.span_metrics;
+  segment_meta = b.segment_meta ∙ a.segment_meta;
+  segment_metrics = b.segment_metrics ∙ a.segment_metrics;
+  strings = b.strings ∙ a.strings;
+  defaults = b.defaults ∙ a.defaults;
+}
+only_then Metric t t₁ t₂ a b = record {
+  memory = memory_then t t₁ t₂ a.memory b.memory;
+  span_meta = b.span_meta ∙ a.span_meta;
   segment_meta = b.segment_meta ∙ a.segment_meta;
   segment_metrics = b.segment_metrics ∙ a.segment_metrics;
   strings = b.strings ∙ a.strings;

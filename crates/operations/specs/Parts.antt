@@ -75,6 +75,55 @@ module _ {T : Type 0} where
     pub strings : new.strings ≡ old.strings
     pub defaults : new.defaults ≡ old.defaults
 
+  -- the spans and their number rows
+  pub record NumbersOnly (old new : Tables T) : Type 0 where
+    pub memory : SameMemory old new
+    pub span_meta : new.span_meta ≡ old.span_meta
+    pub segment_meta : new.segment_meta ≡ old.segment_meta
+    pub segment_metrics : new.segment_metrics ≡ old.segment_metrics
+    pub strings : new.strings ≡ old.strings
+    pub defaults : new.defaults ≡ old.defaults
+
+  -- the spans without their rows
+  pub record FieldsOnly (old new : Tables T) : Type 0 where
+    pub memory : SameMemory old new
+    pub span_meta : new.span_meta ≡ old.span_meta
+    pub span_metrics : new.span_metrics ≡ old.span_metrics
+    pub segment_meta : new.segment_meta ≡ old.segment_meta
+    pub segment_metrics : new.segment_metrics ≡ old.segment_metrics
+    pub strings : new.strings ≡ old.strings
+    pub defaults : new.defaults ≡ old.defaults
+
+  -- the text rows of the segments
+  pub record SegmentTextsOnly (old new : Tables T) : Type 0 where
+    pub memory : SameMemory old new
+    pub spans : new.spans ≡ old.spans
+    pub span_meta : new.span_meta ≡ old.span_meta
+    pub span_metrics : new.span_metrics ≡ old.span_metrics
+    pub segment_metrics : new.segment_metrics ≡ old.segment_metrics
+    pub strings : new.strings ≡ old.strings
+    pub defaults : new.defaults ≡ old.defaults
+
+  -- the number rows of the segments
+  pub record SegmentNumbersOnly (old new : Tables T) : Type 0 where
+    pub memory : SameMemory old new
+    pub spans : new.spans ≡ old.spans
+    pub span_meta : new.span_meta ≡ old.span_meta
+    pub span_metrics : new.span_metrics ≡ old.span_metrics
+    pub segment_meta : new.segment_meta ≡ old.segment_meta
+    pub strings : new.strings ≡ old.strings
+    pub defaults : new.defaults ≡ old.defaults
+
+  -- the spans and their rows for pairs of this kind
+  abbrev pub PairOnly : PairKind → Tables T → Tables T → Type 0
+  PairOnly Meta old new = TextsOnly old new
+  PairOnly Metric old new = NumbersOnly old new
+
+  -- the rows of the segments for pairs of this kind
+  abbrev pub SegmentPairOnly : PairKind → Tables T → Tables T → Type 0
+  SegmentPairOnly Meta old new = SegmentTextsOnly old new
+  SegmentPairOnly Metric old new = SegmentNumbersOnly old new
+
   -- all but the strings and the default pairs
   pub record SharedStay (old new : Tables T) : Type 0 where
     pub memory : SameMemory old new

@@ -3,7 +3,7 @@ ghost use Rattle.std.specs.Prelude.{◌≡◌, ℕ};
 ghost use Rattle.layout.specs.Reads.{held};
 ghost use Rattle.book.specs.Actions.{times};
 ghost use Rattle.book.specs.Flush.{set_attribute};
-ghost use Rattle.operations.specs.Parts.{HasRow, SpansOnly, with_tables};
+ghost use Rattle.operations.specs.Parts.{HasRow, PairOnly, with_tables};
 ghost use Rattle.interpret.specs.Attributes.{pair_attribute};
 ghost use Rattle.interpret.specs.Played.{OnLive, set_counted};
 
@@ -24,7 +24,7 @@ pub fn batch_set_pairs<T: Text>(
 ) -> Result<()>
     requires row { HasRow kind tables.old found.number }
     ensures played { OnLive T.bytes found.id found.number (set_counted (pair_attribute kind) found.id) (held buffer.now) (with_tables tables.old) (with_tables tables.new) index.old index.new result }
-    ensures only { SpansOnly tables.old tables.new }
+    ensures only { PairOnly kind tables.old tables.new }
     ensures row { HasRow kind tables.new found.number }
 {
     let count: u32 = buffer.read(index)?;
@@ -41,7 +41,7 @@ fn set_pairs<T: Text>(
 ) -> Result<()>
     requires row { HasRow kind tables.old found.number }
     ensures played { OnLive T.bytes found.id found.number (times count (set_attribute (pair_attribute kind) found.id)) (held buffer.now) (with_tables tables.old) (with_tables tables.new) index.old index.new result }
-    ensures only { SpansOnly tables.old tables.new }
+    ensures only { PairOnly kind tables.old tables.new }
     ensures row { HasRow kind tables.new found.number }
 {
     for _ in 0..count {

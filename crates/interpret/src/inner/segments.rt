@@ -2,7 +2,7 @@
 ghost use Rattle.std.specs.Prelude.{◌≡◌, ℕ, length};
 ghost use Rattle.layout.specs.Reads.{held};
 ghost use Rattle.operations.specs.Done.{HeldWithin, SegmentRows};
-ghost use Rattle.operations.specs.Parts.{RowsOnly, with_seated};
+ghost use Rattle.operations.specs.Parts.{SegmentPairOnly, with_seated};
 ghost use Rattle.interpret.specs.Attributes.{origin_attribute, pair_attribute};
 ghost use Rattle.interpret.specs.Played.{note_attribute, OnAny};
 
@@ -27,7 +27,7 @@ pub fn set_trace_pair<T: Text, G: Index>(
 ) -> Result<()>
     requires rows { SegmentRows kind tables.old segments.old (G.content by_segment.now).held }
     ensures played { OnAny T.bytes (note_attribute (pair_attribute kind) segment) (held buffer.now) (with_seated tables.old segments.old (G.content by_segment.now).held) (with_seated tables.new segments.new (G.content by_segment.now).held) index.old index.new result }
-    ensures only { RowsOnly tables.old tables.new }
+    ensures only { SegmentPairOnly kind tables.old tables.new }
 {
     let pair = read_pair(buffer, index, tables, kind)?;
     add_segment_pair(tables, segments, by_segment, segment, pair)

@@ -2,7 +2,7 @@
 ghost use Rattle.std.specs.Prelude.{◌≡◌, ℕ, ◌<◌, length};
 ghost use Rattle.layout.specs.Reads.{held};
 ghost use Rattle.book.specs.Flush.{set_attribute};
-ghost use Rattle.operations.specs.Parts.{HasRow, SpansOnly, with_tables};
+ghost use Rattle.operations.specs.Parts.{FieldsOnly, HasRow, PairOnly, with_tables};
 ghost use Rattle.interpret.specs.Attributes.{attribute_of, pair_attribute};
 ghost use Rattle.interpret.specs.Played.{OnLive};
 
@@ -26,7 +26,7 @@ pub fn set_pair<T: Text>(
 ) -> Result<()>
     requires row { HasRow kind tables.old found.number }
     ensures played { OnLive T.bytes found.id found.number (set_attribute (pair_attribute kind) found.id) (held buffer.now) (with_tables tables.old) (with_tables tables.new) index.old index.new result }
-    ensures only { SpansOnly tables.old tables.new }
+    ensures only { PairOnly kind tables.old tables.new }
     ensures row { HasRow kind tables.new found.number }
 {
     let pair = read_pair(buffer, index, tables, kind)?;
@@ -42,7 +42,7 @@ pub fn set_span_field<T: Text>(
 ) -> Result<()>
     requires within { found.number < length tables.old.spans.now }
     ensures played { OnLive T.bytes found.id found.number (set_attribute (attribute_of name) found.id) (held buffer.now) (with_tables tables.old) (with_tables tables.new) index.old index.new result }
-    ensures only { SpansOnly tables.old tables.new }
+    ensures only { FieldsOnly tables.old tables.new }
 {
     let field = read_field(buffer, index, tables, name)?;
     set_field(tables.spans, found, field);

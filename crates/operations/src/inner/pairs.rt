@@ -1,7 +1,7 @@
 // One pair more on a live span.
 ghost use Rattle.operations.specs.Done.{OnSpanHeld};
 ghost use Rattle.operations.specs.Fields.{kind_of, pair_written};
-ghost use Rattle.operations.specs.Parts.{HasRow, SpansOnly, with_tables};
+ghost use Rattle.operations.specs.Parts.{HasRow, PairOnly, with_tables};
 
 use crate::inner::rows::insert_below;
 use crate::values::Pair;
@@ -16,7 +16,7 @@ pub fn add_pair<T: Text>(tables: &mut Tables<'_, T>, found: Entry, pair: Pair<T>
     requires row { HasRow (kind_of pair) tables.old found.number }
     ensures done { OnSpanHeld T.bytes found.id found.number (pair_written T.bytes pair) (with_tables tables.old) (with_tables tables.new) result }
     ensures row { HasRow (kind_of pair) tables.new found.number }
-    ensures only { SpansOnly tables.old tables.new }
+    ensures only { PairOnly (kind_of pair) tables.old tables.new }
 {
     let number = found.number;
     match pair {

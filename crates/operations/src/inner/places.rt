@@ -61,7 +61,12 @@ fn unused<R: Place>(records: &[R], hint: usize) -> Option<usize>
 }
 
 // The record that is held for an id, else one in no use.
-fn record_for<R: Place, I: Index>(records: &[R], index: &I, id: u64, hint: usize) -> Option<usize>
+pub fn record_for<R: Place, I: Index>(
+    records: &[R],
+    index: &I,
+    id: u64,
+    hint: usize,
+) -> Option<usize>
     ensures { MatchOption result (NoRecordFor R.unused (I.content index.now).held records.now id) (RecordFor R.unused (I.content index.now).held records.now id) }
 {
     index.find(id).or_else(|| unused(records, hint))

@@ -3,7 +3,7 @@ ghost use Rattle.std.specs.Prelude.{◌≡◌, ℕ, ◌<◌, length, Ok};
 ghost use Rattle.book.specs.Book.{origin, text, ◌≔◌};
 ghost use Rattle.operations.specs.Done.{OnSeat, OnSegmentIfStanding, HeldWithin, SegmentRows};
 ghost use Rattle.operations.specs.Fields.{kind_of, pair_written};
-ghost use Rattle.operations.specs.Parts.{HasSegmentRow, RowsOnly, with_segments, with_seats, with_tables, with_seated};
+ghost use Rattle.operations.specs.Parts.{HasSegmentRow, SegmentPairOnly, with_segments, with_seats, with_tables, with_seated};
 
 use crate::inner::rows::insert_below;
 use crate::values::Pair;
@@ -24,7 +24,7 @@ pub fn add_segment_pair<T: Text, G: Index>(
 ) -> Result<()>
     requires rows { SegmentRows (kind_of pair) tables.old segments.old (G.content by_segment.now).held }
     ensures done { OnSegmentIfStanding T.bytes id (pair_written T.bytes pair) (with_seated tables.old segments.old (G.content by_segment.now).held) (with_seated tables.new segments.new (G.content by_segment.now).held) result }
-    ensures only { RowsOnly tables.old tables.new }
+    ensures only { SegmentPairOnly (kind_of pair) tables.old tables.new }
 {
     match by_segment.find(id) {
         Some(number) => pair_at(tables, segments, Entry { id, number }, pair),
@@ -40,7 +40,7 @@ fn pair_at<T: Text>(
 ) -> Result<()>
     requires row { HasSegmentRow (kind_of pair) tables.old segments.old found.number }
     ensures done { OnSeat T.bytes found.id found.number (pair_written T.bytes pair) (λ m. with_segments segments.old (with_tables tables.old m)) (λ m. with_segments segments.new (with_tables tables.new m)) result }
-    ensures only { RowsOnly tables.old tables.new }
+    ensures only { SegmentPairOnly (kind_of pair) tables.old tables.new }
 {
     let number = found.number;
     match pair {

@@ -2,6 +2,7 @@ use Rattle.std.proofs.lemmas.Result.{err_from_is_err_and}
 use Rattle.layout.specs.Reads.{held}
 use Rattle.interpret.specs.Attributes.{pair_attribute}
 use Rattle.interpret.proofs.Playing.{count-unread, count_done}
+use Rattle.interpret.proofs.Following.{only_start}
 use Rattle.interpret.proofs.inner.batches.batch_set_pairs.Goals as goal
 
 pub returns-in_err-count-clause-played : goal.returns-in_err-count-clause-played
@@ -14,3 +15,6 @@ pub returns-clause-played : goal.returns-clause-played
 returns-clause-played g c = λ m o own.
     count_done g.T.Text.bytes (held c.args.buffer.now) _ c.args.index.now (pair_attribute c.args.kind) c.args.found.id c.in_ok-count.count c.read.new.index c.set_pairs.new.index _ _ c.in_ok-count.ensures.cases
     (c.set_pairs.ensures.played m o own)
+
+pub returns-in_err-count-clause-only : goal.returns-in_err-count-clause-only
+returns-in_err-count-clause-only g c = only_start c.args.kind _

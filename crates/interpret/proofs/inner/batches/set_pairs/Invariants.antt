@@ -2,14 +2,14 @@ use Rattle.std.proofs.Common.{Ok}
 use Rattle.layout.specs.Reads.{held}
 use Rattle.book.specs.Actions.{times}
 use Rattle.book.specs.Flush.{set_attribute}
-use Rattle.operations.specs.Parts.{HasRow, SpansOnly, with_tables}
+use Rattle.operations.specs.Parts.{HasRow, PairOnly, with_tables}
 use Rattle.interpret.specs.Attributes.{pair_attribute}
 use Rattle.interpret.specs.Played.{OnLive}
 use Rattle.interpret.proofs.inner.batches.set_pairs.Given as goal
 
 abbrev pub invariant-loop : goal.invariant-loop
 invariant-loop g l = record {
-  only : SpansOnly l.initial.tables l.tables;
+  only : PairOnly l.kind l.initial.tables l.tables;
   row : HasRow l.kind l.tables l.found.number;
   played : OnLive g.T.Text.bytes l.found.id l.found.number (times l.counter (set_attribute (pair_attribute l.kind) l.found.id)) (held l.buffer) (with_tables l.initial.tables) (with_tables l.tables) l.initial.index l.index (Ok tt);
 }

@@ -2,9 +2,10 @@ use Rattle.std.proofs.Common.{sym, subst}
 use Rattle.std.proofs.lemmas.Result.{err_from_is_err_and}
 use Rattle.layout.specs.Reads.{held}
 use Rattle.operations.specs.Done.{SegmentRows}
-use Rattle.operations.specs.Parts.{with_seated}
+use Rattle.operations.specs.Parts.{SegmentPairOnly, with_seated}
 use Rattle.interpret.specs.Attributes.{pair_attribute}
 use Rattle.interpret.proofs.Playing.{note-unread, note_done}
+use Rattle.interpret.proofs.Following.{segment_only_start}
 use Rattle.interpret.proofs.inner.segments.set_trace_pair.Goals as goal
 
 pub returns-in_err-pair-clause-played : goal.returns-in_err-pair-clause-played
@@ -22,3 +23,9 @@ returns-clause-played g c = λ m o.
 
 pub add_segment_pair-requires : goal.add_segment_pair-requires
 add_segment_pair-requires g c = record { rows = subst (λ k. SegmentRows k c.args.tables.now c.args.segments.now (g.G.Index.content c.args.by_segment.now).held) (sym c.in_ok-pair.ensures.kind) c.requires.rows }
+
+pub returns-in_err-pair-clause-only : goal.returns-in_err-pair-clause-only
+returns-in_err-pair-clause-only g c = segment_only_start c.args.kind _
+
+pub returns-clause-only : goal.returns-clause-only
+returns-clause-only g c = subst (λ k. SegmentPairOnly k c.args.tables.now c.add_segment_pair.new.tables) c.in_ok-pair.ensures.kind c.add_segment_pair.ensures.only

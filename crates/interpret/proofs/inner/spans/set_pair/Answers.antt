@@ -1,9 +1,10 @@
 use Rattle.std.proofs.Common.{sym, subst}
 use Rattle.std.proofs.lemmas.Result.{err_from_is_err_and}
 use Rattle.layout.specs.Reads.{held}
-use Rattle.operations.specs.Parts.{HasRow, with_tables}
+use Rattle.operations.specs.Parts.{HasRow, PairOnly, with_tables}
 use Rattle.interpret.specs.Attributes.{pair_attribute}
 use Rattle.interpret.proofs.Playing.{attribute_unread, attribute_done}
+use Rattle.interpret.proofs.Following.{only_start}
 use Rattle.interpret.proofs.inner.spans.set_pair.Goals as goal
 
 pub returns-in_err-pair-clause-played : goal.returns-in_err-pair-clause-played
@@ -22,3 +23,9 @@ add_pair-requires g c = record { row = subst (λ k. HasRow k c.args.tables.now c
 
 pub returns-clause-row : goal.returns-clause-row
 returns-clause-row g c = subst (λ k. HasRow k c.add_pair.new.tables c.args.found.number) c.in_ok-pair.ensures.kind c.add_pair.ensures.row
+
+pub returns-in_err-pair-clause-only : goal.returns-in_err-pair-clause-only
+returns-in_err-pair-clause-only g c = only_start c.args.kind _
+
+pub returns-clause-only : goal.returns-clause-only
+returns-clause-only g c = subst (λ k. PairOnly k c.args.tables.now c.add_pair.new.tables) c.in_ok-pair.ensures.kind c.add_pair.ensures.only

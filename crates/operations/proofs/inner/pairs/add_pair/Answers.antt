@@ -6,7 +6,7 @@ use Rattle.book.specs.Book.{meta, metric}
 use Rattle.book.specs.Flush.{write_span}
 use Rattle.operations.specs.declared.values.PairKind.TheVariants as kind
 use Rattle.operations.specs.Fields.{kind_of}
-use Rattle.operations.specs.Parts.{HasRow, SpansOnly, with_tables}
+use Rattle.operations.specs.Parts.{HasRow, TextsOnly, NumbersOnly, with_tables}
 use Rattle.operations.specs.Done.{Done, NoneMade}
 use Rattle.operations.proofs.Writing.{done_meta, done_metric}
 use Rattle.operations.proofs.inner.pairs.add_pair.Goals.{in-Meta, in-Metric}
@@ -15,8 +15,8 @@ use Rattle.operations.proofs.inner.pairs.add_pair.Goals as goal
 pub returns-clause-only : goal.returns-clause-only
 returns-clause-only g c =
     elim c.match-pair.branch [
-      | in-Meta w ↦ subst (λ t. SpansOnly c.args.tables.now t) (sym w.tables-is) (search rules)
-      | in-Metric w ↦ subst (λ t. SpansOnly c.args.tables.now t) (sym w.tables-is) (search rules)
+      | in-Meta w ↦ rw w.in-Meta.is (subst (λ t. TextsOnly c.args.tables.now t) (sym w.tables-is) (search rules))
+      | in-Metric w ↦ rw w.in-Metric.is (subst (λ t. NumbersOnly c.args.tables.now t) (sym w.tables-is) (search rules))
     ]
 
 pub returns-clause-row : goal.returns-clause-row

@@ -4,7 +4,7 @@ use Rattle.std.proofs.lemmas.Option.{slice_get-get_or}
 use Rattle.refusals.specs.declared.ChangeBufferError.TheVariants.{RowFull}
 use Rattle.book.specs.Book.{meta, metric}
 use Rattle.book.specs.Flush.{write_segment}
-use Rattle.operations.specs.Parts.{RowsOnly, with_segments, with_tables}
+use Rattle.operations.specs.Parts.{SegmentTextsOnly, SegmentNumbersOnly, with_segments, with_tables}
 use Rattle.operations.specs.Done.{Done, NoneMade}
 use Rattle.operations.proofs.Noting.{with_meta_head, with_metrics_head, done_meta, done_metric}
 use Rattle.operations.proofs.inner.segments.pair_at.Goals.{in-Meta, in-Metric}
@@ -13,8 +13,8 @@ use Rattle.operations.proofs.inner.segments.pair_at.Goals as goal
 pub returns-clause-only : goal.returns-clause-only
 returns-clause-only g c =
     elim c.match-pair.branch [
-      | in-Meta w ↦ subst (λ t. RowsOnly c.args.tables.now t) (sym w.tables-is) (search rules)
-      | in-Metric w ↦ subst (λ t. RowsOnly c.args.tables.now t) (sym w.tables-is) (search rules)
+      | in-Meta w ↦ rw w.in-Meta.is (subst (λ t. SegmentTextsOnly c.args.tables.now t) (sym w.tables-is) (search rules))
+      | in-Metric w ↦ rw w.in-Metric.is (subst (λ t. SegmentNumbersOnly c.args.tables.now t) (sym w.tables-is) (search rules))
     ]
 
 pub returns-clause-done : goal.returns-clause-done
