@@ -6,7 +6,7 @@ use Rattle.index.specs.declared.entry.Entry.{Entry}
 use Rattle.index.specs.Held.{at}
 use Rattle.refusals.specs.declared.ChangeBufferError.{ChangeBufferError}
 use Rattle.refusals.specs.declared.ChangeBufferError.TheVariants.{NoRecord, NoSegmentRecord}
-use Rattle.book.specs.Limits.{most_count}
+use Rattle.book.specs.Limits.{most_count, span_text_row}
 use Rattle.book.specs.Book.{Text, Field, Writing, blank, latest, texts, numbers}
 use Rattle.book.specs.Flush.{make}
 use Rattle.tables.specs.declared.span.Mark.TheVariants.{Live}
@@ -115,8 +115,8 @@ module _ {T : Type 0} where
   -- the span's part of a create
   pub record Makes (xs xs' : List (Span T)) (ms ms' ds : List (T × T)) (s s' : Settings T) (es es' : List Entry) (id segment r : ℕ) (k : Making T) : Type 0 where
     pub spans : xs' ≡ slice_set xs r (made_span id segment k s.defaults)
-    pub pairs : take s.defaults (row 99 r ms') ≡ take s.defaults ds
-    pub others : OthersStay 99 r ms ms'
+    pub pairs : take s.defaults (row span_text_row r ms') ≡ take s.defaults ds
+    pub others : OthersStay span_text_row r ms ms'
     pub settings : SameSettings s s'
     pub entry : Puts es es' id r
 

@@ -2,10 +2,12 @@
 ghost use Rattle.std.specs.Prelude.{◌≡◌, ℕ, ◌+◌, ◌*◌, ◌<◌, ◌≤◌, List, length, take, Some, slice_set};
 ghost use Rattle.std.specs.List.{slice_get};
 ghost use Rattle.vec_map.specs.Tables.{row, OthersStay};
+ghost use Rattle.book.specs.Limits.{most_defaults, span_text_row};
 ghost use Rattle.tables.specs.Store.{Store};
 ghost use Rattle.tables.specs.InOrder.{InOrder};
 ghost use Rattle.operations.specs.Done.{gone};
-ghost use Rattle.operations.specs.Parts.{TextsOnly, create_parts};
+ghost use Rattle.operations.specs.declared.values.PairKind.TheVariants.{Meta};
+ghost use Rattle.operations.specs.Parts.{HasRow, TextsOnly, create_parts};
 ghost use Rattle.operations.specs.Made.{SameSettings, made_span, new_segment, Roomy, Puts, RecordFor, CanGrow, Makes, Enters, Creates};
 
 use crate::inner::places::{Place, seat_for, span_for};
@@ -20,13 +22,12 @@ use tables::tables::Tables;
 use texts::Text;
 use vec_map::head::Head;
 
-// The first pairs of a list into the front of a row.
-fn fill_row<T: Text>(row: &mut [(T, T)], pairs: &[(T, T)], count: usize)
-    requires place { count ≤ length row.old }
-    requires within { count ≤ length pairs.now }
-    ensures items { take count row.new ≡ take count pairs.now }
+// Pairs into the front of a row.
+fn fill_row<T: Text>(row: &mut [(T, T)], pairs: &[(T, T)])
+    requires { length pairs.now ≤ length row.old }
+    ensures { take (length pairs.now) row.new ≡ pairs.now }
 {
-    row[..count].copy_from_slice(&pairs[..count]);
+    row[..pairs.len()].copy_from_slice(pairs);
 }
 
 // The default pairs into the text row of a span; every other row stays as it is. They are lent by `&mut`, since the check
@@ -37,16 +38,16 @@ fn fill_defaults<T: Text>(
     defaults: &mut [(T, T)],
     count: usize,
 )
-    requires place { number * 99 + 99 ≤ length span_meta.old }
+    requires place { number * span_text_row + span_text_row ≤ length span_meta.old }
     requires within { count ≤ length defaults.old }
-    requires bound { count ≤ 32 }
-    ensures items { take count (row 99 number span_meta.new) ≡ take count defaults.old }
-    ensures others { OthersStay 99 number span_meta.old span_meta.new }
+    requires bound { count ≤ most_defaults }
+    ensures items { take count (row span_text_row number span_meta.new) ≡ take count defaults.old }
+    ensures others { OthersStay span_text_row number span_meta.old span_meta.new }
     ensures long { length span_meta.new ≡ length span_meta.old }
     ensures same { defaults.new ≡ defaults.old }
 {
     let from = number * TEXT_ROW;
-    fill_row(&mut span_meta[from..from + TEXT_ROW], defaults, count);
+    fill_row(&mut span_meta[from..from + TEXT_ROW], &defaults[..count]);
 }
 
 // The hint moves on where the span's record is taken from the free ones: each may hold the next in place of a segment.
@@ -105,10 +106,9 @@ fn make_span<T: Text, S: Index>(
     segment: u64,
     making: Making<T>,
 )
-    requires within { place.number < length tables.old.spans.now }
-    requires place { place.number * 99 + 99 ≤ length tables.old.span_meta.now }
+    requires row { HasRow Meta tables.old place.number }
     requires pairs { settings.old.defaults ≤ length tables.old.defaults.now }
-    requires bound { settings.old.defaults ≤ 32 }
+    requires bound { settings.old.defaults ≤ most_defaults }
     requires room { Roomy (S.content by_id.old).held (S.content by_id.old).room place.id }
     ensures makes { Makes tables.old.spans.now tables.new.spans.now tables.old.span_meta.now tables.new.span_meta.now tables.old.defaults.now settings.old settings.new (S.content by_id.old).held (S.content by_id.new).held place.id segment place.number making }
     ensures capacity { (S.content by_id.new).room ≡ (S.content by_id.old).room }

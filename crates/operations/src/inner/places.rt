@@ -81,10 +81,8 @@ pub fn span_for<T: Text, S: Index>(
 ) -> Result<Entry>
     ensures { SpanPlace (S.content by_id.now).held tables.now.spans.now id result }
 {
-    match record_for(tables.spans, by_id, id, hint) {
-        Some(number) => Ok(Entry { id, number }),
-        None => Err(ChangeBufferError::NoRecord(id)),
-    }
+    let number = record_for(tables.spans, by_id, id, hint).ok_or(ChangeBufferError::NoRecord(id))?;
+    Ok(Entry { id, number })
 }
 
 fn can_grow<T: Text>(segments: &[Segment<T>], seat: usize) -> bool

@@ -1,5 +1,6 @@
 use Rattle.std.proofs.Common.{ℕ, length, sym, subst, arith}
 use Rattle.std.proofs.lemmas.Result.{err_from_is_err_and}
+use Rattle.book.specs.Limits.{span_text_row}
 use Rattle.operations.specs.Parts.{create_parts}
 use Rattle.operations.specs.Done.{gone}
 use Rattle.operations.specs.Made.{RecordFor, Roomy, Makes, Enters}
@@ -24,13 +25,10 @@ returns-in_err-seat-clause-done g c =
     done_no_seat _ o (g.met.S.Index.once c.args.by_id.now) (g.met.G.Index.once c.args.by_segment.now) g.T.Text.bytes c.args.id c.args.segment ws
     c.in_ok-place.place.number c.in_ok-place.ensures.1 c.in_err-seat.ensures.1)
 
-pub make_span-requires-clause-within : goal.make_span-requires-clause-within
-make_span-requires-clause-within g c = record_within _ _ c.args.tables.now.spans.now c.args.id c.in_ok-place.place.number (ids-within _ c.requires.order.1) c.in_ok-place.ensures.1
-
-pub make_span-requires-clause-place : goal.make_span-requires-clause-place
-make_span-requires-clause-place g c =
+pub make_span-requires-clause-row : goal.make_span-requires-clause-row
+make_span-requires-clause-row g c =
     let w = record_within _ _ c.args.tables.now.spans.now c.args.id c.in_ok-place.place.number (ids-within _ c.requires.order.1) c.in_ok-place.ensures.1 in
-    rows_within c.in_ok-place.place.number (length c.args.tables.now.spans.now) 99 _ w c.requires.order.1.span_lengths.text_rows
+    record { within = w; row = rows_within c.in_ok-place.place.number (length c.args.tables.now.spans.now) span_text_row _ w c.requires.order.1.span_lengths.text_rows }
 
 pub make_span-requires-clause-pairs : goal.make_span-requires-clause-pairs
 make_span-requires-clause-pairs g c =
