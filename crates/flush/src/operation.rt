@@ -33,6 +33,7 @@ pub enum Operation {
 }
 
 // A function and not a `From`, whose answer the specs would have to give by a second table beside the book's.
+// A match and no table of closures, since one contract would have to do for all closures of the table.
 pub fn operation_of(opcode: OpCode) -> Operation
     ensures { find (code opcode) table ≡ Some (meaning result) }
 {

@@ -1,4 +1,5 @@
 // A create's operands.
+// The place goes beside the buffer: in a struct of both, every contract would have to say that the buffer stays.
 ghost use Rattle.std.specs.Prelude.{◌≡◌, ℕ, IfOk};
 ghost use Rattle.layout.specs.Reads.{held};
 ghost use Rattle.book.specs.Flush.{read_fields};

@@ -1,4 +1,5 @@
 // What operations write, read from a buffer.
+// The place goes beside the buffer: in a struct of both, every contract would have to say that the buffer stays.
 ghost use Rattle.std.specs.Prelude.{◌≡◌, ℕ, IfOk};
 ghost use Rattle.layout.specs.Reads.{held};
 ghost use Rattle.book.specs.Flush.{read_attribute};
@@ -14,8 +15,7 @@ use tables::tables::Tables;
 use texts::Text;
 use vec_map::float::float_bits;
 
-// A pair: a key and a text from the string table, or a key and a float, which goes by its bits. (A buffer and the place
-// in it go side by side, as in the original.)
+// A pair: a key and a text from the string table, or a key and a float, which goes by its bits.
 pub fn read_pair<T: Text>(
     buffer: &ChangeBuffer,
     index: &mut usize,

@@ -1,4 +1,7 @@
 // A create, its operands read.
+// The place goes beside the buffer: in a struct of both, every contract would have to say that the buffer stays.
+// `order` is a clause: it ties tables, segments, settings and both indexes, which no struct may hold together.
+// `only` is a clause: it relates the tables before and after, which no type can hold.
 ghost use Rattle.std.specs.Prelude.{◌≡◌, ℕ};
 ghost use Rattle.layout.specs.Reads.{held};
 ghost use Rattle.book.specs.Flush.{perform, create as creates};

@@ -1,4 +1,6 @@
 // One operation after another, on tables in order.
+// The place goes beside the buffer: in a struct of both, every contract would have to say that the buffer stays.
+// `order` is a clause: it ties tables, segments, settings and both indexes, which no struct may hold together.
 ghost use Rattle.std.specs.Prelude.{◌≡◌, ℕ, ◌+◌, ◌≤◌, length, OnOk};
 ghost use Rattle.layout.specs.Reads.{held};
 ghost use Rattle.book.specs.Actions.{times};
@@ -30,6 +32,7 @@ use texts::Text;
 
 // A create looks at the tables after its last operand; every other operation finds its live span before the first. (The
 // indexes are lent each as a parameter of its own, and so is what was found in one of them.)
+// A match and no table of closures, since one contract would have to do for all closures of the table.
 fn perform<T: Text, S: Index, G: Index>(
     buffer: &ChangeBuffer,
     index: &mut usize,
@@ -135,7 +138,7 @@ pub fn flush<T: Text, S: Index, G: Index>(
     ensures bound { OnOk result (index.old + 8 ≤ length (held buffer.now)) }
 {
     let count: u64 = buffer.read(index)?;
-    // A remainder, since a cast is proved to lose nothing.
+    // A mask, since a cast is proved to lose nothing.
     operate_times(
         buffer,
         index,
@@ -144,7 +147,7 @@ pub fn flush<T: Text, S: Index, G: Index>(
         settings,
         by_id,
         by_segment,
-        (count % 0x1_0000_0000) as u32,
+        (count & 0xffff_ffff) as u32,
     )
 }
 

@@ -1,4 +1,6 @@
 // Operations on the segment of a live span, by their kind.
+// The place goes beside the buffer: in a struct of both, every contract would have to say that the buffer stays.
+// `only` is a clause: it relates the tables before and after, which no type can hold.
 ghost use Rattle.std.specs.Prelude.{ℕ};
 ghost use Rattle.layout.specs.Reads.{held};
 ghost use Rattle.operations.specs.declared.values.PairKind.{PairKind};

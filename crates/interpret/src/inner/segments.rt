@@ -1,4 +1,6 @@
 // Operations on the segment of a live span, which are read and dropped where it is gone.
+// The place goes beside the buffer: in a struct of both, every contract would have to say that the buffer stays.
+// `only` is a clause: it relates the tables before and after, which no type can hold.
 ghost use Rattle.std.specs.Prelude.{◌≡◌, ℕ, length};
 ghost use Rattle.layout.specs.Reads.{held};
 ghost use Rattle.operations.specs.Done.{HeldWithin, SegmentRows};

@@ -1,6 +1,7 @@
 // A create: a span is made, and its segment counts one more.
-ghost use Rattle.std.specs.Prelude.{◌≡◌, ℕ, ◌+◌, ◌*◌, ◌<◌, ◌≤◌, List, length, take, Some, slice_set};
-ghost use Rattle.std.specs.List.{slice_get};
+// `order` is a clause: it ties tables, segments, settings and both indexes, which no struct may hold together.
+// `only` is a clause: it relates the tables before and after, which no type can hold.
+ghost use Rattle.std.specs.Prelude.{◌≡◌, ◌+◌, ◌*◌, ◌<◌, ◌≤◌, length, take};
 ghost use Rattle.vec_map.specs.Tables.{row, OthersStay};
 ghost use Rattle.book.specs.Limits.{most_defaults, span_text_row};
 ghost use Rattle.tables.specs.Store.{Store};
@@ -50,7 +51,9 @@ fn fill_defaults<T: Text>(
     fill_row(&mut span_meta[from..from + TEXT_ROW], &defaults[..count]);
 }
 
-// The hint moves on where the span's record is taken from the free ones: each may hold the next in place of a segment.
+// Where the span takes a free record, the hint moves on. A free record may keep the number of the next free one in its
+// `segment` field, so the hinted record gives that number, and any other record the one after its own. What stands in
+// free records is open, so a hint is looked at before it is used.
 fn move_hint<T: Text>(settings: &mut Settings<T>, span: &Span<T>, number: usize)
     ensures same { SameSettings settings.old settings.new }
 {

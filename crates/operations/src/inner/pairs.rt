@@ -1,4 +1,5 @@
 // One pair more on a live span.
+// `only` is a clause: it relates the tables before and after, which no type can hold.
 ghost use Rattle.operations.specs.Done.{OnSpanHeld};
 ghost use Rattle.operations.specs.Fields.{kind_of, pair_written};
 ghost use Rattle.operations.specs.Parts.{HasRow, PairOnly, with_tables};

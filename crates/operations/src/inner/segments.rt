@@ -1,4 +1,5 @@
 // Writings to the segment of a live span, which are dropped where it is gone.
+// `only` is a clause: it relates the tables before and after, which no type can hold.
 ghost use Rattle.std.specs.Prelude.{◌≡◌, ℕ, ◌<◌, length, Ok};
 ghost use Rattle.book.specs.Book.{origin, text, ◌≔◌};
 ghost use Rattle.operations.specs.Done.{OnSeat, OnSegmentIfStanding, HeldWithin, SegmentRows};

@@ -1,6 +1,12 @@
+use Rattle.std.proofs.Common.{ℕ, subst}
+use Rattle.std.proofs.lemmas.Nat.{and_mask}
 use Rattle.std.proofs.lemmas.Result.{err_from_is_err_and}
 use Rattle.layout.specs.Reads.{held}
+use Rattle.book.specs.Actions.{times}
+use Rattle.book.specs.Flush.{operation}
 use Rattle.tables.specs.Lent.{passed}
+use Rattle.interpret.specs.Played.{Played}
+use Rattle.flush.specs.Operation.{Created}
 use Rattle.flush.proofs.Operating.{uncounted, counted}
 use Rattle.flush.proofs.inner.flushing.flush.Goals as goal
 
@@ -11,4 +17,10 @@ returns-in_err-count-clause-played g c =
 
 pub returns-clause-played : goal.returns-clause-played
 returns-clause-played g c =
-    counted g.T.Text.bytes (held c.args.buffer.now) (passed c.args.tables.now c.args.segments.now c.args.settings.now (g.S.Index.content c.args.by_id.now) (g.G.Index.content c.args.by_segment.now)) c.args.index.now c.read.new.index c.in_ok-count.count _ _ _ c.in_ok-count.ensures.cases c.operate_times.ensures.played
+    let b = held c.args.buffer.now in
+    let m = passed c.args.tables.now c.args.segments.now c.args.settings.now (g.S.Index.content c.args.by_id.now) (g.G.Index.content c.args.by_segment.now) in
+    let n = c.operate_times.new in
+    let m' = passed n.tables n.segments n.settings (g.S.Index.content n.by_id) (g.G.Index.content n.by_segment) in
+    let count = c.in_ok-count.count in
+    counted g.T.Text.bytes b m c.args.index.now c.read.new.index count m' n.index c.operate_times.result c.in_ok-count.ensures.cases
+    (subst (λ (k : ℕ). Played g.T.Text.bytes (times k operation) (Created b) b m m' c.read.new.index n.index c.operate_times.result) (and_mask count 32) c.operate_times.ensures.played)
