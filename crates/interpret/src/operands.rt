@@ -38,7 +38,8 @@ pub fn read_pair<T: Text>(
     }
 }
 
-// The new value of a span's field.
+// The new value of a span's field. (By `?` and not by `map`: the check of borrows does not cover a variant that is passed
+// as a function where its argument does not name T.)
 pub fn read_field<T: Text>(
     buffer: &ChangeBuffer,
     index: &mut usize,
