@@ -1,4 +1,5 @@
 // Cases of the recorder: a call on tables that are in order, and on tables that are out of order in one way each.
+// Each case is a test with a name of its own; what they share stands in `unindexed` and `refused`.
 use index::Index;
 use layout::utils::TraceId;
 use recorder::strings::string_table_insert_one;

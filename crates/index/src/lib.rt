@@ -10,6 +10,7 @@ pub mod holds;
 use crate::entry::Full;
 
 // What an index means is its content: what it holds, in an order that is left open, and its capacity.
+// `capacity` is a clause at each change, and room is asked for a put: both relate two moments or two values, as no type can.
 pub trait Index {
     ghost content: { Self → Content };
 

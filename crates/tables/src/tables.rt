@@ -9,6 +9,7 @@ pub const MOST_DEFAULTS: usize = 32;
 // All tables but the segments. By a rule of the project no struct holds a lent table together with floats, or with a
 // text or an index by value, so segments, settings and both indexes are lent beside it, each as its own parameter.
 // By a rule of the project the rows of a record are lent memory of a fixed width, so they lie beside it and not in it.
+// Who is lent these has clauses on the memory that lies behind them: without, nothing is known of it once the struct is gone.
 #[derive(Drop)]
 pub struct Tables<'a, T> {
     pub spans: &'a mut [Span<T>],

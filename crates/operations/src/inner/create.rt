@@ -126,7 +126,8 @@ fn make_span<T: Text, S: Index>(
     put_place(by_id, place);
 }
 
-// A segment that one creation names, and nothing written to it.
+// A segment that one creation names, and nothing written to it. (Who makes a record, here and elsewhere, writes out its
+// fields: each gives others, and a constructor for all would take them as parameters.)
 fn new_segment<T: Text>(id: u64) -> Segment<T>
     ensures { result ≡ new_segment id }
 {
@@ -161,7 +162,7 @@ fn enter_segment<T: Text, G: Index>(segments: &mut [Segment<T>], by_segment: &mu
 }
 
 // A span is made in its own record, or a free one, and its segment is made if it is absent. Refused (11, 12) where one
-// of them finds no record, or the segment's count cannot grow.
+// of them finds no record, or the segment's count cannot grow. (The segment's id goes beside what is made: it is not the span's.)
 pub fn create<T: Text, S: Index, G: Index>(
     tables: &mut Tables<'_, T>,
     segments: &mut [Segment<T>],

@@ -12,7 +12,8 @@ use tables::span::{NUMBER_LIMIT, NUMBER_ROW, TEXT_LIMIT, TEXT_ROW};
 use tables::tables::Tables;
 use texts::Text;
 
-// A pair on the live span that was found. Refused (13) where its row has no place for one more.
+// A pair on the live span that was found. Refused (13) where its row has no place for one more. (Two arms: tables, widths,
+// limits and heads differ, here and on segments, and a trait that gives all four for each would be no plainer.)
 pub fn add_pair<T: Text>(tables: &mut Tables<'_, T>, found: Entry, pair: Pair<T>) -> Result<()>
     requires row { HasRow (kind_of pair) tables.old found.number }
     ensures done { OnSpanHeld T.bytes found.id found.number (pair_written T.bytes pair) (with_tables tables.old) (with_tables tables.new) result }

@@ -33,6 +33,7 @@ pub fn add_segment_pair<T: Text, G: Index>(
     }
 }
 
+// (Two arms, as on spans.)
 fn pair_at<T: Text>(
     tables: &mut Tables<'_, T>,
     segments: &mut [Segment<T>],
