@@ -10,7 +10,6 @@ use layout::buffer::ChangeBuffer;
 use layout::utils::TraceId;
 use operations::values::Making;
 use refusals::Result;
-use tables::tables::Tables;
 use texts::Text;
 
 // The fields that a create has operands for, beside trace, segment and parent.
@@ -103,16 +102,16 @@ fn read_made_fields<T: Text>(
 pub fn read_creation<T: Text>(
     buffer: &ChangeBuffer,
     index: &mut usize,
-    tables: &Tables<'_, T>,
+    strings: &[Option<T>],
     extra: Extra,
 ) -> Result<Creation<T>>
-    ensures reads { ReadsAs T.bytes (read_create (fields_of extra)) tables.now.strings.now (held buffer.now) index.old index.new (creation_of T.bytes extra) result }
+    ensures reads { ReadsAs T.bytes (read_create (fields_of extra)) strings.now (held buffer.now) index.old index.new (creation_of T.bytes extra) result }
     ensures blank { IfOk result (λ c. RestBlank T.bytes extra c.making) }
 {
     let trace: TraceId = buffer.read(index)?;
     let segment: u64 = buffer.read(index)?;
     let parent: u64 = buffer.read(index)?;
-    let fields = read_made_fields(buffer, index, tables.strings, extra)?;
+    let fields = read_made_fields(buffer, index, strings, extra)?;
     let making = Making {
         trace,
         parent,

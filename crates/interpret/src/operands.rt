@@ -11,7 +11,6 @@ use crate::attributes::FieldName;
 use layout::buffer::ChangeBuffer;
 use operations::values::{Pair, PairKind, SpanField};
 use refusals::Result;
-use tables::tables::Tables;
 use texts::Text;
 use vec_map::float::float_bits;
 
@@ -19,16 +18,16 @@ use vec_map::float::float_bits;
 pub fn read_pair<T: Text>(
     buffer: &ChangeBuffer,
     index: &mut usize,
-    tables: &Tables<'_, T>,
+    strings: &[Option<T>],
     kind: PairKind,
 ) -> Result<Pair<T>>
-    ensures reads { ReadsAs T.bytes (read_attribute (pair_attribute kind)) tables.now.strings.now (held buffer.now) index.old index.new (pair_written T.bytes) result }
+    ensures reads { ReadsAs T.bytes (read_attribute (pair_attribute kind)) strings.now (held buffer.now) index.old index.new (pair_written T.bytes) result }
     ensures kind { IfOk result (λ p. kind_of p ≡ kind) }
 {
-    let key = buffer.read_string(tables.strings, index)?;
+    let key = buffer.read_string(strings, index)?;
     match kind {
         PairKind::Meta => {
-            let value = buffer.read_string(tables.strings, index)?;
+            let value = buffer.read_string(strings, index)?;
             Ok(Pair::Meta(key, value))
         }
         PairKind::Metric => {
@@ -43,16 +42,16 @@ pub fn read_pair<T: Text>(
 pub fn read_field<T: Text>(
     buffer: &ChangeBuffer,
     index: &mut usize,
-    tables: &Tables<'_, T>,
+    strings: &[Option<T>],
     name: FieldName,
 ) -> Result<SpanField<T>>
-    ensures reads { ReadsAs T.bytes (read_attribute (attribute_of name)) tables.now.strings.now (held buffer.now) index.old index.new (field_written T.bytes) result }
+    ensures reads { ReadsAs T.bytes (read_attribute (attribute_of name)) strings.now (held buffer.now) index.old index.new (field_written T.bytes) result }
 {
     match name {
-        FieldName::Service => Ok(SpanField::Service(buffer.read_string(tables.strings, index)?)),
-        FieldName::Resource => Ok(SpanField::Resource(buffer.read_string(tables.strings, index)?)),
-        FieldName::Kind => Ok(SpanField::Kind(buffer.read_string(tables.strings, index)?)),
-        FieldName::Name => Ok(SpanField::Name(buffer.read_string(tables.strings, index)?)),
+        FieldName::Service => Ok(SpanField::Service(buffer.read_string(strings, index)?)),
+        FieldName::Resource => Ok(SpanField::Resource(buffer.read_string(strings, index)?)),
+        FieldName::Kind => Ok(SpanField::Kind(buffer.read_string(strings, index)?)),
+        FieldName::Name => Ok(SpanField::Name(buffer.read_string(strings, index)?)),
         FieldName::Error => Ok(SpanField::Error(buffer.read(index)?)),
         FieldName::Start => Ok(SpanField::Start(buffer.read(index)?)),
         FieldName::Duration => Ok(SpanField::Duration(buffer.read(index)?)),

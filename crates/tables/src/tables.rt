@@ -1,4 +1,6 @@
 // The tables that a caller lends to a call.
+ghost use Rattle.std.specs.Prelude.{◌≡◌};
+
 use crate::span::Span;
 
 pub const MOST_STRINGS: usize = 65536;
@@ -22,4 +24,20 @@ pub struct Tables<'a, T> {
     pub strings: &'a mut [Option<T>],
     // 32 default pairs.
     pub defaults: &'a mut [(T, T)],
+}
+
+impl<'a, T> Tables<'a, T> {
+    // The span records, to be read.
+    pub fn spans(&self) -> &[Span<T>]
+        ensures { result.now ≡ self.now.spans.now }
+    {
+        self.spans
+    }
+
+    // The strings, to be read.
+    pub fn strings(&self) -> &[Option<T>]
+        ensures { result.now ≡ self.now.strings.now }
+    {
+        self.strings
+    }
 }

@@ -62,7 +62,7 @@ fn perform<T: Text, S: Index, G: Index>(
         }
         Operation::Segments(on) => {
             let found = find_span(by_id, last, id)?;
-            let segment = segment_of(tables, found);
+            let segment = segment_of(tables.spans(), found);
             on_segment(buffer, index, tables, segments, by_segment, segment, on)
         }
     }

@@ -5,7 +5,7 @@ ghost use Rattle.flush.specs.Found.{Cached, Finds, SegmentAt};
 use index::Index;
 use index::entry::Entry;
 use refusals::{ChangeBufferError, Result};
-use tables::tables::Tables;
+use tables::span::Span;
 use texts::Text;
 
 // Looks into the index only where another span was found last.
@@ -26,9 +26,9 @@ pub fn find_span<S: Index>(by_id: &S, last: &mut Option<Entry>, id: u64) -> Resu
 }
 
 // The id of a span's segment.
-pub fn segment_of<T: Text>(tables: &Tables<'_, T>, found: Entry) -> u64
-    requires { found.number < length tables.now.spans.now }
-    ensures { SegmentAt tables.now.spans.now found.number result }
+pub fn segment_of<T: Text>(spans: &[Span<T>], found: Entry) -> u64
+    requires { found.number < length spans.now }
+    ensures { SegmentAt spans.now found.number result }
 {
-    tables.spans[found.number].segment
+    spans[found.number].segment
 }

@@ -35,6 +35,13 @@ pub fn on_segment<T: Text, G: Index>(
         OnSegment::Pair(kind) => set_trace_pair(
             buffer, index, tables, segments, by_segment, segment, kind,
         ),
-        OnSegment::Origin => set_trace_origin(buffer, index, tables, segments, by_segment, segment),
+        OnSegment::Origin => set_trace_origin(
+            buffer,
+            index,
+            tables.strings(),
+            segments,
+            by_segment,
+            segment,
+        ),
     }
 }

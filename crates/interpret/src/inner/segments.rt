@@ -3,8 +3,9 @@
 // `only` is a clause: it relates the tables before and after, which no type can hold.
 ghost use Rattle.std.specs.Prelude.{◌≡◌, ℕ, length};
 ghost use Rattle.layout.specs.Reads.{held};
+ghost use Rattle.recorder.specs.Strings.{with_strings};
 ghost use Rattle.operations.specs.Done.{HeldWithin, SegmentRows};
-ghost use Rattle.operations.specs.Parts.{SegmentPairOnly, with_seated};
+ghost use Rattle.operations.specs.Parts.{SegmentPairOnly, with_segments, with_seats, with_seated};
 ghost use Rattle.interpret.specs.Attributes.{origin_attribute, pair_attribute};
 ghost use Rattle.interpret.specs.Played.{note_attribute, OnAny};
 
@@ -31,22 +32,22 @@ pub fn set_trace_pair<T: Text, G: Index>(
     ensures played { OnAny T.bytes (note_attribute (pair_attribute kind) segment) (held buffer.now) (with_seated tables.old segments.old (G.content by_segment.now).held) (with_seated tables.new segments.new (G.content by_segment.now).held) index.old index.new result }
     ensures only { SegmentPairOnly kind tables.old tables.new }
 {
-    let pair = read_pair(buffer, index, tables, kind)?;
+    let pair = read_pair(buffer, index, tables.strings(), kind)?;
     add_segment_pair(tables, segments, by_segment, segment, pair)
 }
 
 pub fn set_trace_origin<T: Text, G: Index>(
     buffer: &ChangeBuffer,
     index: &mut usize,
-    tables: &Tables<'_, T>,
+    strings: &[Option<T>],
     segments: &mut [Segment<T>],
     by_segment: &G,
     segment: u64,
 ) -> Result<()>
     requires within { HeldWithin (G.content by_segment.now).held (length segments.old) }
-    ensures played { OnAny T.bytes (note_attribute origin_attribute segment) (held buffer.now) (with_seated tables.now segments.old (G.content by_segment.now).held) (with_seated tables.now segments.new (G.content by_segment.now).held) index.old index.new result }
+    ensures played { OnAny T.bytes (note_attribute origin_attribute segment) (held buffer.now) (λ m. with_strings strings.now (with_seats (G.content by_segment.now).held (with_segments segments.old m))) (λ m. with_strings strings.now (with_seats (G.content by_segment.now).held (with_segments segments.new m))) index.old index.new result }
 {
-    let value = buffer.read_string(tables.strings, index)?;
+    let value = buffer.read_string(strings, index)?;
     set_origin(segments, by_segment, segment, value);
     Ok(())
 }

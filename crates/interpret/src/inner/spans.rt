@@ -31,7 +31,7 @@ pub fn set_pair<T: Text>(
     ensures only { PairOnly kind tables.old tables.new }
     ensures row { HasRow kind tables.new found.number }
 {
-    let pair = read_pair(buffer, index, tables, kind)?;
+    let pair = read_pair(buffer, index, tables.strings(), kind)?;
     add_pair(tables, found, pair)
 }
 
@@ -46,7 +46,7 @@ pub fn set_span_field<T: Text>(
     ensures played { OnLive T.bytes found.id found.number (set_attribute (attribute_of name) found.id) (held buffer.now) (with_tables tables.old) (with_tables tables.new) index.old index.new result }
     ensures only { FieldsOnly tables.old tables.new }
 {
-    let field = read_field(buffer, index, tables, name)?;
+    let field = read_field(buffer, index, tables.strings(), name)?;
     set_field(tables.spans, found, field);
     Ok(())
 }

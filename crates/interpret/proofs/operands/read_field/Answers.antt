@@ -17,7 +17,7 @@ returns-in_err-read_string-in-Service g c =
       reads = λ m.
           as_attribute (held c.args.buffer.now) _ c.args.index.now _ _ _ _ (ap attribute_of c.in-Service.is) refl
           (text_field_fails (held c.args.buffer.now) _ c.args.index.now service (refusal c.in_err-read_string-in-Service.field-0.0)
-          (text_fails g.T.Text.bytes (held c.args.buffer.now) (with_strings c.args.tables.now.strings.now m) c.args.index.now c.read_string.new.index c.in_err-read_string-in-Service.field-0.0 c.in_err-read_string-in-Service.ensures.cases));
+          (text_fails g.T.Text.bytes (held c.args.buffer.now) (with_strings c.args.strings.now m) c.args.index.now c.read_string.new.index c.in_err-read_string-in-Service.field-0.0 c.in_err-read_string-in-Service.ensures.cases));
     })
 
 pub returns-in_ok-read_string-in-Service : goal.returns-in_ok-read_string-in-Service
@@ -25,7 +25,7 @@ returns-in_ok-read_string-in-Service g c = record {
   reads = λ m.
       as_attribute (held c.args.buffer.now) _ c.args.index.now _ _ _ _ (ap attribute_of c.in-Service.is) refl
       (text_field_reads (held c.args.buffer.now) _ c.args.index.now service c.read_string.new.index _
-      (text_reads g.T.Text.bytes (held c.args.buffer.now) (with_strings c.args.tables.now.strings.now m) c.args.index.now c.read_string.new.index c.in_ok-read_string-in-Service.field-0 c.in_ok-read_string-in-Service.ensures.cases));
+      (text_reads g.T.Text.bytes (held c.args.buffer.now) (with_strings c.args.strings.now m) c.args.index.now c.read_string.new.index c.in_ok-read_string-in-Service.field-0 c.in_ok-read_string-in-Service.ensures.cases));
 }
 
 pub returns-in_err-read_string-in-Resource : goal.returns-in_err-read_string-in-Resource
@@ -35,7 +35,7 @@ returns-in_err-read_string-in-Resource g c =
       reads = λ m.
           as_attribute (held c.args.buffer.now) _ c.args.index.now _ _ _ _ (ap attribute_of c.in-Resource.is) refl
           (text_field_fails (held c.args.buffer.now) _ c.args.index.now resource (refusal c.in_err-read_string-in-Resource.field-0.0)
-          (text_fails g.T.Text.bytes (held c.args.buffer.now) (with_strings c.args.tables.now.strings.now m) c.args.index.now c.read_string-in-Resource.new.index c.in_err-read_string-in-Resource.field-0.0 c.in_err-read_string-in-Resource.ensures.cases));
+          (text_fails g.T.Text.bytes (held c.args.buffer.now) (with_strings c.args.strings.now m) c.args.index.now c.read_string-in-Resource.new.index c.in_err-read_string-in-Resource.field-0.0 c.in_err-read_string-in-Resource.ensures.cases));
     })
 
 pub returns-in_ok-read_string-in-Resource : goal.returns-in_ok-read_string-in-Resource
@@ -43,7 +43,7 @@ returns-in_ok-read_string-in-Resource g c = record {
   reads = λ m.
       as_attribute (held c.args.buffer.now) _ c.args.index.now _ _ _ _ (ap attribute_of c.in-Resource.is) refl
       (text_field_reads (held c.args.buffer.now) _ c.args.index.now resource c.read_string-in-Resource.new.index _
-      (text_reads g.T.Text.bytes (held c.args.buffer.now) (with_strings c.args.tables.now.strings.now m) c.args.index.now c.read_string-in-Resource.new.index c.in_ok-read_string-in-Resource.field-0 c.in_ok-read_string-in-Resource.ensures.cases));
+      (text_reads g.T.Text.bytes (held c.args.buffer.now) (with_strings c.args.strings.now m) c.args.index.now c.read_string-in-Resource.new.index c.in_ok-read_string-in-Resource.field-0 c.in_ok-read_string-in-Resource.ensures.cases));
 }
 
 pub returns-in_err-read_string-in-Kind : goal.returns-in_err-read_string-in-Kind
@@ -53,7 +53,7 @@ returns-in_err-read_string-in-Kind g c =
       reads = λ m.
           as_attribute (held c.args.buffer.now) _ c.args.index.now _ _ _ _ (ap attribute_of c.in-Kind.is) refl
           (text_field_fails (held c.args.buffer.now) _ c.args.index.now type (refusal c.in_err-read_string-in-Kind.field-0.0)
-          (text_fails g.T.Text.bytes (held c.args.buffer.now) (with_strings c.args.tables.now.strings.now m) c.args.index.now c.read_string-in-Kind.new.index c.in_err-read_string-in-Kind.field-0.0 c.in_err-read_string-in-Kind.ensures.cases));
+          (text_fails g.T.Text.bytes (held c.args.buffer.now) (with_strings c.args.strings.now m) c.args.index.now c.read_string-in-Kind.new.index c.in_err-read_string-in-Kind.field-0.0 c.in_err-read_string-in-Kind.ensures.cases));
     })
 
 pub returns-in_ok-read_string-in-Kind : goal.returns-in_ok-read_string-in-Kind
@@ -61,7 +61,7 @@ returns-in_ok-read_string-in-Kind g c = record {
   reads = λ m.
       as_attribute (held c.args.buffer.now) _ c.args.index.now _ _ _ _ (ap attribute_of c.in-Kind.is) refl
       (text_field_reads (held c.args.buffer.now) _ c.args.index.now type c.read_string-in-Kind.new.index _
-      (text_reads g.T.Text.bytes (held c.args.buffer.now) (with_strings c.args.tables.now.strings.now m) c.args.index.now c.read_string-in-Kind.new.index c.in_ok-read_string-in-Kind.field-0 c.in_ok-read_string-in-Kind.ensures.cases));
+      (text_reads g.T.Text.bytes (held c.args.buffer.now) (with_strings c.args.strings.now m) c.args.index.now c.read_string-in-Kind.new.index c.in_ok-read_string-in-Kind.field-0 c.in_ok-read_string-in-Kind.ensures.cases));
 }
 
 pub returns-in_err-read_string-in-Name : goal.returns-in_err-read_string-in-Name
@@ -71,7 +71,7 @@ returns-in_err-read_string-in-Name g c =
       reads = λ m.
           as_attribute (held c.args.buffer.now) _ c.args.index.now _ _ _ _ (ap attribute_of c.in-Name.is) refl
           (text_field_fails (held c.args.buffer.now) _ c.args.index.now name (refusal c.in_err-read_string-in-Name.field-0.0)
-          (text_fails g.T.Text.bytes (held c.args.buffer.now) (with_strings c.args.tables.now.strings.now m) c.args.index.now c.read_string-in-Name.new.index c.in_err-read_string-in-Name.field-0.0 c.in_err-read_string-in-Name.ensures.cases));
+          (text_fails g.T.Text.bytes (held c.args.buffer.now) (with_strings c.args.strings.now m) c.args.index.now c.read_string-in-Name.new.index c.in_err-read_string-in-Name.field-0.0 c.in_err-read_string-in-Name.ensures.cases));
     })
 
 pub returns-in_ok-read_string-in-Name : goal.returns-in_ok-read_string-in-Name
@@ -79,7 +79,7 @@ returns-in_ok-read_string-in-Name g c = record {
   reads = λ m.
       as_attribute (held c.args.buffer.now) _ c.args.index.now _ _ _ _ (ap attribute_of c.in-Name.is) refl
       (text_field_reads (held c.args.buffer.now) _ c.args.index.now name c.read_string-in-Name.new.index _
-      (text_reads g.T.Text.bytes (held c.args.buffer.now) (with_strings c.args.tables.now.strings.now m) c.args.index.now c.read_string-in-Name.new.index c.in_ok-read_string-in-Name.field-0 c.in_ok-read_string-in-Name.ensures.cases));
+      (text_reads g.T.Text.bytes (held c.args.buffer.now) (with_strings c.args.strings.now m) c.args.index.now c.read_string-in-Name.new.index c.in_ok-read_string-in-Name.field-0 c.in_ok-read_string-in-Name.ensures.cases));
 }
 
 pub returns-in_err-read-in-Error : goal.returns-in_err-read-in-Error

@@ -1,4 +1,4 @@
-use Rattle.std.proofs.Common.{◌≡◌, ℕ, ap, ◌∙◌, subst}
+use Rattle.std.proofs.Common.{◌≡◌, ℕ, ◌<◌, ap, ◌∙◌, subst, sym, length}
 use Rattle.std.proofs.lemmas.Result.{err_from_is_err_and}
 use Rattle.layout.specs.Reads.{held}
 use Rattle.book.specs.Flush.{create, perform}
@@ -8,6 +8,7 @@ use Rattle.operations.specs.Done.{NoneMade}
 use Rattle.operations.proofs.Taking.{ids-within}
 use Rattle.interpret.specs.Creation.{fields_of}
 use Rattle.interpret.specs.Played.{Played}
+use Rattle.flush.specs.Found.{SegmentAt}
 use Rattle.flush.specs.Operation.{span_act, segment_attribute}
 use Rattle.flush.proofs.Performing.{as_passed, has_row, segment_rows, span_then, span-missing, segment_then, segment-missing}
 use Rattle.flush.proofs.Operating.{still_cached}
@@ -57,7 +58,9 @@ returns-in_err-found-in-Segments-clause-played g c =
     (segment-missing g.T.Text.bytes (held c.args.buffer.now) (passed c.args.tables.now c.args.segments.now c.args.settings.now (g.S.Index.content c.args.by_id.now) (g.G.Index.content c.args.by_segment.now)) c.args.id c.args.index.now (segment_attribute c.in-Segments.on) c.args.index.now c.in_err-found-in-Segments.field-0.0 c.requires.order f.0 f.1)
 
 pub segment_of-segment-requires : goal.segment_of-segment-requires
-segment_of-segment-requires g c = ids-within (passed c.args.tables.now c.args.segments.now c.args.settings.now (g.S.Index.content c.args.by_id.now) (g.G.Index.content c.args.by_segment.now)) c.requires.order c.args.id c.in_ok-found-in-Segments.found.number c.in_ok-found-in-Segments.ensures.finds.1
+segment_of-segment-requires g c =
+    subst (λ xs. c.in_ok-found-in-Segments.found.number < length xs) (sym c.spans.ensures)
+    (ids-within (passed c.args.tables.now c.args.segments.now c.args.settings.now (g.S.Index.content c.args.by_id.now) (g.G.Index.content c.args.by_segment.now)) c.requires.order c.args.id c.in_ok-found-in-Segments.found.number c.in_ok-found-in-Segments.ensures.finds.1)
 
 pub on_segment-requires : goal.on_segment-requires
 on_segment-requires g c = record { rows = segment_rows c.args.tables.now c.args.segments.now c.args.settings.now (g.S.Index.content c.args.by_id.now) (g.G.Index.content c.args.by_segment.now) c.requires.order }
@@ -66,5 +69,5 @@ pub returns-in_ok-found-in-Segments-clause-played : goal.returns-in_ok-found-in-
 returns-in_ok-found-in-Segments-clause-played g c =
     let m = passed c.args.tables.now c.args.segments.now c.args.settings.now (g.S.Index.content c.args.by_id.now) (g.G.Index.content c.args.by_segment.now) in
     rw c.in-Segments.is
-    (segment_then g.T.Text.bytes (held c.args.buffer.now) m c.args.id c.args.index.now c.requires.order c.in_ok-found-in-Segments.found.number c.in_ok-found-in-Segments.ensures.finds.1 (segment_attribute c.in-Segments.on) c.segment_of-segment.result _ _ _ c.segment_of-segment.ensures
+    (segment_then g.T.Text.bytes (held c.args.buffer.now) m c.args.id c.args.index.now c.requires.order c.in_ok-found-in-Segments.found.number c.in_ok-found-in-Segments.ensures.finds.1 (segment_attribute c.in-Segments.on) c.segment_of-segment.result _ _ _ (subst (λ xs. SegmentAt xs c.in_ok-found-in-Segments.found.number c.segment_of-segment.result) c.spans.ensures c.segment_of-segment.ensures)
     (c.on_segment.ensures.played m c.requires.order))

@@ -3,7 +3,7 @@ use Rattle.std.proofs.lemmas.Result.{err_from_is_err_and}
 use Rattle.layout.specs.Reads.{held}
 use Rattle.operations.specs.Parts.{HasRow, PairOnly, with_tables}
 use Rattle.interpret.specs.Attributes.{pair_attribute}
-use Rattle.interpret.proofs.Playing.{attribute_unread, attribute_done}
+use Rattle.interpret.proofs.Playing.{by_strings, attribute_unread, attribute_done}
 use Rattle.interpret.proofs.Following.{only_start}
 use Rattle.interpret.proofs.inner.spans.set_pair.Goals as goal
 
@@ -11,11 +11,11 @@ pub returns-in_err-pair-clause-played : goal.returns-in_err-pair-clause-played
 returns-in_err-pair-clause-played g c =
     let p = err_from_is_err_and c.from_residual.result c.from_residual.ensures.1 in
     rw (p.1, p.2) (λ m o own.
-    attribute_unread g.T.Text.bytes (held c.args.buffer.now) _ c.args.index.now (pair_attribute c.args.kind) c.args.found.id c.read_pair.new.index c.in_err-pair.field-0.0 o (c.in_err-pair.ensures.reads (with_tables c.args.tables.now m)))
+    attribute_unread g.T.Text.bytes (held c.args.buffer.now) _ c.args.index.now (pair_attribute c.args.kind) c.args.found.id c.read_pair.new.index c.in_err-pair.field-0.0 o (by_strings g.T.Text.bytes _ (held c.args.buffer.now) c.args.index.now _ (with_tables c.args.tables.now m) c.strings.ensures (c.in_err-pair.ensures.reads (with_tables c.args.tables.now m))))
 
 pub returns-clause-played : goal.returns-clause-played
 returns-clause-played g c = (λ m o own.
-    attribute_done g.T.Text.bytes (held c.args.buffer.now) _ c.args.index.now (pair_attribute c.args.kind) c.args.found.id _ c.read_pair.new.index _ _ (c.in_ok-pair.ensures.reads (with_tables c.args.tables.now m))
+    attribute_done g.T.Text.bytes (held c.args.buffer.now) _ c.args.index.now (pair_attribute c.args.kind) c.args.found.id _ c.read_pair.new.index _ _ (by_strings g.T.Text.bytes _ (held c.args.buffer.now) c.args.index.now _ (with_tables c.args.tables.now m) c.strings.ensures (c.in_ok-pair.ensures.reads (with_tables c.args.tables.now m)))
     (c.add_pair.ensures.done m o own))
 
 pub add_pair-requires : goal.add_pair-requires
