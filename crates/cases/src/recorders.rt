@@ -21,7 +21,7 @@ fn span(mark: Mark, id: u64) -> Span<ListedText> {
         segment: 0,
         meta: Head::default(),
         metrics: Head::default(),
-        trace: TraceId { low: 0, high: 0 },
+        trace: TraceId::default(),
         parent: 0,
         start: 0,
         duration: 0,

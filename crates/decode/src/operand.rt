@@ -91,6 +91,7 @@ pub struct Operand {
 
 impl Value {
     // The value of a kind at `index`, which moves past it; it stays where the value does not fit.
+    // (A match, here and in `Row::of`: one contract would have to do for all closures of a table.)
     pub fn read(buffer: &ChangeBuffer, index: &mut usize, kind: Kind) -> Result<Value>
         ensures cases { Reads (meant kind) (size kind) (held buffer.now) index.old index.new result }
     {

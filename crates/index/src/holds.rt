@@ -5,6 +5,7 @@ ghost use Rattle.index.specs.Holding.{Holds, placed};
 use crate::Index;
 
 // Goes by the records that have an id: each is found at its place, and the index counts no more.
+// (Counted by hand, since the same pass asks the index for each.)
 pub fn holds<I: Index>(index: &I, records: &[Option<u64>]) -> bool
     ensures { IsTrue result ↔ (Holds (I.content index.now).held (placed records.now)) }
 {

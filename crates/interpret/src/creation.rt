@@ -34,7 +34,7 @@ fn bare<T: Text>() -> Making<T>
     ensures blank { RestBlank T.bytes Extra.Bare result }
 {
     Making {
-        trace: TraceId { low: 0, high: 0 },
+        trace: TraceId::default(),
         parent: 0,
         service: T::empty(),
         name: T::empty(),
@@ -83,6 +83,7 @@ fn read_full<T: Text>(
     })
 }
 
+// (A match and no table of closures, here and in `operands`: one contract would have to do for all closures of the table.)
 fn read_made_fields<T: Text>(
     buffer: &ChangeBuffer,
     index: &mut usize,

@@ -7,6 +7,7 @@ pub struct Settings<T> {
     pub pid: u32,
     // How many of the default pairs count: their table is lent memory of a fixed length.
     pub defaults: usize,
-    // Where to look first for a free record: a hint, which is tested when it is used.
+    // Where to look first for a free record: a hint, which is tested when it is used. A number and no list of free records,
+    // since there is no heap.
     pub next_free: usize,
 }

@@ -52,7 +52,7 @@ fn blank_span() -> Span<ShortText> {
         segment: 0,
         meta: Head::default(),
         metrics: Head::default(),
-        trace: TraceId { low: 0, high: 0 },
+        trace: TraceId::default(),
         parent: 0,
         start: 0,
         duration: 0,

@@ -39,7 +39,7 @@ fn row_start(width: usize, at: usize, len: usize) -> Option<usize>
 {
     let from = at.checked_mul(width)?;
     let end = from.checked_add(width)?;
-    if end <= len { Some(from) } else { None }
+    (end <= len).then_some(from)
 }
 
 // One pair more in row `at`; every other row stays as it is. A full row, or one that is not in the table, hands the

@@ -2,6 +2,7 @@
 // The place goes beside the buffer: in a struct of both, every contract would have to say that the buffer stays.
 // `order` is a clause: it ties tables, segments, settings and both indexes, which no struct may hold together.
 // `shared` is a clause: it relates the tables before and after, which no type can hold.
+// `cached` is a clause: it ties the record found last to the index, which is a parameter of its own.
 ghost use Rattle.std.specs.Prelude.{◌≡◌, ℕ, ◌+◌, ◌≤◌, length, OnOk};
 ghost use Rattle.layout.specs.Reads.{held};
 ghost use Rattle.book.specs.Actions.{times};

@@ -32,7 +32,8 @@ fn fill_row<T: Text>(row: &mut [(T, T)], pairs: &[(T, T)])
 }
 
 // The default pairs into the text row of a span; every other row stays as it is. They are lent by `&mut`, since the check
-// does not yet lend pairs that lie in a field of a `&mut Tables` by `&`.
+// does not yet lend pairs that lie in a field of a `&mut Tables` by `&`. (The row is there, so its start is not tested, as
+// `vec_map` does where it may not be.)
 fn fill_defaults<T: Text>(
     span_meta: &mut [(T, T)],
     number: usize,

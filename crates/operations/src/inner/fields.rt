@@ -17,6 +17,7 @@ pub fn set_field<T: Text>(spans: &mut [Span<T>], found: Entry, field: SpanField<
     write_field(&mut spans[found.number], field);
 }
 
+// (A match on the field: a closure for each would be no plainer.)
 fn write_field<T: Text>(span: &mut Span<T>, field: SpanField<T>)
     ensures { span.new ≡ with_field field span.old }
 {
