@@ -1,6 +1,6 @@
 // A script: one call a line, its name first and then its words. Comments go from '#' to the line's end.
 use std::alloc::{AllocError, Global};
-use std::str::{FromStr, SplitWhitespace};
+use std::str::{FromStr, Lines, SplitWhitespace};
 use std::{fmt, io};
 use tables::segment::Decisions;
 use texts::short::ShortText;
@@ -35,15 +35,17 @@ pub struct Sizes {
 // A call with the line that says it, which is printed with the answer.
 #[derive(Drop)]
 pub struct Line<'a> {
+    pub number: usize,
     pub text: &'a str,
     pub call: Call,
 }
 
-// Calls of which the first, and no other, is a set-up; the sizes are those that it names.
+// Calls of which the first, and no other, is a set-up; the sizes are those that it names. The text is kept and not its calls,
+// which take more memory than their lines: a call is read again when it is made.
 #[derive(Drop)]
 pub struct Script<'a> {
     pub sizes: Sizes,
-    pub lines: Vec<Line<'a>>,
+    text: &'a str,
 }
 
 // A word that a call takes.
@@ -129,32 +131,45 @@ impl<'a> Script<'a> {
     // All lines are read before any call is made, up to the first that is no call or stands where it must not.
     pub fn parse(heap: Global, text: &'a str) -> Result<Script<'a>, BadScript> {
         let mut sizes = None;
-        let mut lines = Vec::new(heap);
         for (i, line) in text.lines().enumerate() {
-            let number = i.saturating_add(1);
-            let text = line
-                .split_once('#')
-                .map_or(line, |(before, _)| before)
-                .trim();
-            match call_of(heap, text) {
-                Ok(Some(call)) => {
-                    sizes = Some(sizes_with(sizes, &call, number)?);
-                    lines.push(Line { text, call })?;
-                }
-                Ok(None) => {}
-                Err(what) => return Err(BadScript::Line(number, what)),
+            if let Some(line) = Line::parse(heap, i, line)? {
+                sizes = Some(sizes_with(sizes, &line)?);
             }
         }
         let sizes = sizes.ok_or(BadScript::NoSetUp)?;
-        Ok(Script { sizes, lines })
+        Ok(Script { sizes, text })
+    }
+
+    pub(crate) fn lines(&self) -> Lines<'a> {
+        self.text.lines()
+    }
+}
+
+impl<'a> Line<'a> {
+    // The call of the line at a place, none where the line is empty but for a comment.
+    pub(crate) fn parse(
+        heap: Global,
+        place: usize,
+        line: &'a str,
+    ) -> Result<Option<Line<'a>>, BadScript> {
+        let number = place.saturating_add(1);
+        let text = line
+            .split_once('#')
+            .map_or(line, |(before, _)| before)
+            .trim();
+        match call_of(heap, text) {
+            Ok(Some(call)) => Ok(Some(Line { number, text, call })),
+            Ok(None) => Ok(None),
+            Err(what) => Err(BadScript::Line(number, what)),
+        }
     }
 }
 
 // The sizes after one more call: its own where it is the first, which has to be the set-up, and else those found before.
-fn sizes_with(found: Option<Sizes>, call: &Call, number: usize) -> Result<Sizes, BadScript> {
-    match (found, call) {
+fn sizes_with(found: Option<Sizes>, line: &Line<'_>) -> Result<Sizes, BadScript> {
+    match (found, &line.call) {
         (None, Call::SetUp { sizes, .. }) => Ok(*sizes),
-        (Some(_), Call::SetUp { .. }) => Err(BadScript::SetUpAgain(number)),
+        (Some(_), Call::SetUp { .. }) => Err(BadScript::SetUpAgain(line.number)),
         (Some(sizes), _) => Ok(sizes),
         (None, _) => Err(BadScript::NoSetUp),
     }
