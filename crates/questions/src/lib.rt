@@ -5,7 +5,7 @@ ghost use Rattle.std.specs.Prelude.{◌≡◌, ◌+◌, ◌<◌, length, IfOk, O
 ghost use Rattle.index.specs.Held.{at};
 ghost use Rattle.book.specs.Calls.{get_span, get_segment, get_handed, get_numbers};
 ghost use Rattle.tables.specs.Lent.{passed};
-ghost use Rattle.tables.specs.Store.{standing_key};
+ghost use Rattle.tables.specs.Store.{live, standing_key, tally};
 ghost use Rattle.questions.specs.Questions.{Answers, LiveRecord, OneSegment, OneSpan, RecordOf, ThreeNumbers, handed_at, handed_number, live_number, marked, tallies};
 
 use index::Index;
@@ -101,18 +101,17 @@ pub fn get_numbers<T: Text, S: Index, G: Index>(
     ensures len { IfOk result (λ n. n.0 + n.1 + n.2 ≡ length tables.now.spans.now) }
 {
     check_order(tables, segments, settings, by_id, by_segment)?;
-    Ok(count_marks(tables.spans))
+    Ok(count_marks(tables.spans, by_id.count()))
 }
 
-// A tuple of three counts: the fixed form of this answer.
-fn count_marks<T: Text>(spans: &[Span<T>]) -> (usize, usize, usize)
+// A tuple of three counts: the fixed form of this answer. The live records are as many as the index holds, and what is neither
+// live nor handed out is free, so the records are gone over once.
+fn count_marks<T: Text>(spans: &[Span<T>], held: usize) -> (usize, usize, usize)
+    requires { held ≡ tally live spans.now }
     ensures { result ≡ tallies spans.now }
 {
-    (
-        count_of(spans, Mark::Live),
-        count_of(spans, Mark::HandedOut),
-        count_of(spans, Mark::Free),
-    )
+    let handed_out = count_of(spans, Mark::HandedOut);
+    (held, handed_out, spans.len() - held - handed_out)
 }
 
 fn count_of<T: Text>(spans: &[Span<T>], mark: Mark) -> usize

@@ -1,8 +1,13 @@
-use Rattle.std.proofs.Common.{Ok}
+use Rattle.std.proofs.Common.{Ok, ◌∙◌}
 use Rattle.book.specs.Calls.{get_numbers}
 use Rattle.questions.specs.Questions.{ThreeNumbers, tallies}
 use Rattle.questions.proofs.Asking.{three-sum, turned_off, asked-numbers}
+use Rattle.questions.proofs.Tallies.{live-tally}
 use Rattle.questions.proofs.get_numbers.Goals as goal
+
+pub count_marks-requires : goal.count_marks-requires
+count_marks-requires g c =
+    c.count.ensures ∙ live-tally _ _ (g.met.S.Index.once c.args.by_id.now) c.in_ok-check_order.ensures.spans.indexed
 
 pub returns-in_err-check_order-clause-answer : goal.returns-in_err-check_order-clause-answer
 returns-in_err-check_order-clause-answer g c =
