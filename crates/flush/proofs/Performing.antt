@@ -1,5 +1,6 @@
 -- Operations of the book, by their parts.
 use Rattle.std.proofs.Common.{◌≡◌, ℕ, List, length, drop, Some, None, Err, Result, sym, refl, ap, ◌∙◌, subst, inl}
+use Rattle.index.specs.declared.entry.Entry.{Entry}
 use Rattle.index.specs.Held.{Content, at}
 use Rattle.refusals.specs.declared.ChangeBufferError.{ChangeBufferError}
 use Rattle.refusals.specs.declared.ChangeBufferError.TheVariants.{SpanNotFound}
@@ -23,7 +24,7 @@ use Rattle.recorder.specs.Answers.{refusal}
 use Rattle.recorder.specs.Strings.{with_strings}
 use Rattle.operations.specs.declared.values.PairKind.{PairKind}
 use Rattle.operations.specs.declared.values.PairKind.TheVariants.{Meta, Metric}
-use Rattle.operations.specs.Parts.{HasRow, FieldsOnly, PairOnly, RowsOnly, SegmentPairOnly, SpansOnly, TextsOnly, create_parts}
+use Rattle.operations.specs.Parts.{HasRow, FieldsOnly, PairOnly, RowsOnly, SegmentPairOnly, SpansOnly, TextsOnly, create_parts, with_pairs, with_seated, with_seats, with_segment_meta, with_segment_metrics, with_segment_pairs, with_segment_rows, with_span_meta, with_span_metrics, with_span_rows, with_spans, with_tables}
 use Rattle.operations.specs.Done.{ending, NoneMade, SegmentRows, gone}
 use Rattle.operations.proofs.Taking.{ids-within, seats-within}
 use Rattle.operations.proofs.Writing.{rows_within, span-within, text_row-within, number_row-within}
@@ -32,7 +33,7 @@ use Rattle.operations.proofs.Spans.{span_own}
 use Rattle.operations.proofs.Creating.{at-number}
 use Rattle.interpret.specs.Attributes.{attribute_of, pair_attribute}
 use Rattle.interpret.specs.Creation.{read_create}
-use Rattle.interpret.specs.Played.{Played, note_attribute, set_counted}
+use Rattle.interpret.specs.Played.{OnAny, OnLive, Played, note_attribute, set_counted}
 use Rattle.interpret.proofs.Creations.{perform-create}
 use Rattle.flush.specs.declared.operation.OnSpan.{OnSpan}
 use Rattle.flush.specs.declared.operation.OnSpan.TheVariants.{Field, Batch}
@@ -64,6 +65,34 @@ module _ {T : Type 0} (t n : Tables T) where
   pub segment_pair_only : (k : PairKind) → SegmentPairOnly k t n → RowsOnly t n
   segment_pair_only Meta o = record { memory = o.memory; spans = o.spans; span_meta = o.span_meta; span_metrics = o.span_metrics; strings = o.strings; defaults = o.defaults }
   segment_pair_only Metric o = record { memory = o.memory; spans = o.spans; span_meta = o.span_meta; span_metrics = o.span_metrics; strings = o.strings; defaults = o.defaults }
+
+-- ---- what is promised of some tables, of all
+
+module _ {T : Type 0} (bytes : T → Text) (act : Act (Unit {0})) (buffer : List ℕ) (t n : Tables T) (p p' : ℕ) (a : Result (Unit {0}) ChangeBufferError) where
+  module _ (id r : ℕ) where
+    pub pair_rows : (k : PairKind) → PairOnly k t n → OnLive bytes id r act buffer (λ m. with_strings t.strings.now (with_pairs k t m)) (λ m. with_strings n.strings.now (with_pairs k n m)) p p' a
+        → OnLive bytes id r act buffer (λ m. with_strings t.strings.now (with_span_rows t m)) (λ m. with_strings n.strings.now (with_span_rows n m)) p p' a
+    pair_rows Meta only d = λ m o own. rw only.span_metrics (d (with_span_metrics t.span_metrics.now m) o own)
+    pair_rows Metric only d = λ m o own. rw only.span_meta (d (with_span_meta t.span_meta.now m) o own)
+
+    pub field_rows : FieldsOnly t n → OnLive bytes id r act buffer (λ m. with_strings t.strings.now (with_spans t.spans.now m)) (λ m. with_strings n.strings.now (with_spans n.spans.now m)) p p' a
+        → OnLive bytes id r act buffer (λ m. with_strings t.strings.now (with_span_rows t m)) (λ m. with_strings n.strings.now (with_span_rows n m)) p p' a
+    field_rows only d = λ m o own. rw (only.span_meta, only.span_metrics) (d (with_span_metrics t.span_metrics.now (with_span_meta t.span_meta.now m)) o own)
+
+    pub span_tables : SpansOnly t n → OnLive bytes id r act buffer (λ m. with_strings t.strings.now (with_span_rows t m)) (λ m. with_strings n.strings.now (with_span_rows n m)) p p' a
+        → OnLive bytes id r act buffer (with_tables t) (with_tables n) p p' a
+    span_tables only d = λ m o own. rw (only.segment_meta, only.segment_metrics, only.defaults) (d (with_tables t m) o own)
+
+  module _ (ys ys' : List (Segment T)) (es : List Entry) where
+    pub segment_pair_rows : (k : PairKind) → SegmentPairOnly k t n
+        → OnAny bytes act buffer (λ m. with_strings t.strings.now (with_seats es (with_segment_pairs k t ys m))) (λ m. with_strings n.strings.now (with_seats es (with_segment_pairs k n ys' m))) p p' a
+        → OnAny bytes act buffer (λ m. with_strings t.strings.now (with_seats es (with_segment_rows t ys m))) (λ m. with_strings n.strings.now (with_seats es (with_segment_rows n ys' m))) p p' a
+    segment_pair_rows Meta only d = λ m o. rw only.segment_metrics (d (with_segment_metrics t.segment_metrics.now m) o)
+    segment_pair_rows Metric only d = λ m o. rw only.segment_meta (d (with_segment_meta t.segment_meta.now m) o)
+
+    pub segment_tables : RowsOnly t n → OnAny bytes act buffer (λ m. with_strings t.strings.now (with_seats es (with_segment_rows t ys m))) (λ m. with_strings n.strings.now (with_seats es (with_segment_rows n ys' m))) p p' a
+        → OnAny bytes act buffer (with_seated t ys es) (with_seated n ys' es) p p' a
+    segment_tables only d = λ m o. rw (only.spans, only.span_meta, only.span_metrics, only.defaults) (d (with_tables t m) o)
 
 -- ---- a create in the memory that was lent
 

@@ -1,11 +1,11 @@
 -- One step after another: records that both keep, and actions played one after another.
-use Rattle.std.proofs.Common.{◌≡◌, ℕ, suc, ◌+◌, ◌<◌, Bool, false, List, Some, None, Ok, Err, Option, sym, refl, ap, ◌∙◌, subst, inl, inr, arith}
+use Rattle.std.proofs.Common.{◌≡◌, ℕ, suc, ◌+◌, ◌<◌, Bool, false, List, Some, None, Ok, Err, Option, Result, sym, refl, ap, ◌∙◌, subst, inl, inr, arith}
 use Rattle.index.specs.declared.entry.Entry.{Entry}
 use Rattle.index.specs.Held.{at}
 use Rattle.index.proofs.Entries.{same_some}
 use Rattle.vec_map.specs.declared.head.Head.{Head}
 use Rattle.refusals.specs.declared.ChangeBufferError.{ChangeBufferError}
-use Rattle.book.specs.Book.{Text}
+use Rattle.book.specs.Book.{Text, Writing}
 use Rattle.book.specs.Actions.{Act, times}
 use Rattle.book.proofs.Acted.{acts-start, acts-more, acts-turned, acts-count}
 use Rattle.tables.specs.Store.{Store, free}
@@ -13,12 +13,14 @@ use Rattle.tables.specs.InOrder.{InOrder}
 use Rattle.tables.specs.Shows.{Shows}
 use Rattle.std.proofs.lemmas.Option.{none-some, slice_get_within}
 use Rattle.recorder.specs.Answers.{refusal}
+use Rattle.recorder.specs.Strings.{with_strings}
+use Rattle.tables.specs.declared.segment.Segment.{Segment}
 use Rattle.tables.specs.declared.tables.Tables.{Tables}
 use Rattle.tables.proofs.Memory.{memory_kept, memory_then}
 use Rattle.operations.specs.declared.values.PairKind.{PairKind}
 use Rattle.operations.specs.declared.values.PairKind.TheVariants.{Meta, Metric}
-use Rattle.operations.specs.Parts.{PairOnly, SegmentPairOnly}
-use Rattle.operations.specs.Done.{Unused, RowMoved, RowsMoved, RecordsKept, SpansKept, SegmentsKept, gone}
+use Rattle.operations.specs.Parts.{PairOnly, SegmentPairOnly, with_pairs, with_segment_pairs, with_seats}
+use Rattle.operations.specs.Done.{Unused, RowMoved, RowsMoved, RecordsKept, SpansKept, SegmentsKept, OnSpanHeld, OnSegmentIfStanding, gone}
 use Rattle.operations.proofs.Creating.{at-number}
 use Rattle.operations.proofs.Keeping.{records-same}
 use Rattle.interpret.specs.Played.{Played}
@@ -91,6 +93,20 @@ only_then Metric t t₁ t₂ a b = record {
   strings = b.strings ∙ a.strings;
   defaults = b.defaults ∙ a.defaults;
 }
+
+-- ---- a pair where strings lie beside the parts, and stay
+
+module _ {T : Type 0} (bytes : T → Text) (id : ℕ) (w : Writing) (t n : Tables T) (a : Result (Unit {0}) ChangeBufferError) where
+  pub beside_strings : (r : ℕ) (k : PairKind) → PairOnly k t n → OnSpanHeld bytes id r w (with_pairs k t) (with_pairs k n) a
+      → OnSpanHeld bytes id r w (λ m. with_strings t.strings.now (with_pairs k t m)) (λ m. with_strings n.strings.now (with_pairs k n m)) a
+  beside_strings r Meta only d = λ m o own. rw only.strings (d (with_strings t.strings.now m) o own)
+  beside_strings r Metric only d = λ m o own. rw only.strings (d (with_strings t.strings.now m) o own)
+
+  pub seated_beside_strings : (ys ys' : List (Segment T)) (es : List Entry) (k : PairKind) → SegmentPairOnly k t n
+      → OnSegmentIfStanding bytes id w (λ m. with_seats es (with_segment_pairs k t ys m)) (λ m. with_seats es (with_segment_pairs k n ys' m)) a
+      → OnSegmentIfStanding bytes id w (λ m. with_strings t.strings.now (with_seats es (with_segment_pairs k t ys m))) (λ m. with_strings n.strings.now (with_seats es (with_segment_pairs k n ys' m))) a
+  seated_beside_strings ys ys' es Meta only d = λ m o. rw only.strings (d (with_strings t.strings.now m) o)
+  seated_beside_strings ys ys' es Metric only d = λ m o. rw only.strings (d (with_strings t.strings.now m) o)
 
 -- ---- actions
 

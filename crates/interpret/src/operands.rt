@@ -14,7 +14,9 @@ use refusals::Result;
 use texts::Text;
 use vec_map::float::float_bits;
 
-// A pair: a key and a text from the string table, or a key and a float, which goes by its bits.
+// A pair: a key and a text from the string table, or a key and a float, which goes by its bits. Inlined, as `set_pair` is:
+// measured, a batch of text pairs takes half as many instructions so.
+#[inline(always)]
 pub fn read_pair<T: Text>(
     buffer: &ChangeBuffer,
     index: &mut usize,

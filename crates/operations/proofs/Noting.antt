@@ -1,11 +1,13 @@
 -- One writing to a segment.
-use Rattle.std.proofs.Common.{◌≡◌, ℕ, ◌+◌, ◌<◌, ◌≤◌, true, false, not, List, [], ◌∷◌, ◌++◌, map, length, take, set, Some, None, Ok, Err, Option, sym, refl, ap, ◌∙◌, subst, inl, arith}
+use Rattle.std.proofs.Common.{◌≡◌, ℕ, ◌+◌, ◌<◌, ◌≤◌, true, false, not, List, [], ◌∷◌, ◌++◌, map, length, take, set, Some, None, Ok, Err, Option, Result, sym, refl, ap, ◌∙◌, subst, inl, arith}
 use Rattle.std.specs.Option.{ok_or}
 use Rattle.std.specs.List.{slice_get}
 use Rattle.std.proofs.lemmas.Bool.{lt-ltb, le-ltb}
 use Rattle.vec_map.specs.declared.head.Head.{Head}
 use Rattle.vec_map.specs.Tables.{row, OthersStay}
+use Rattle.index.specs.declared.entry.Entry.{Entry}
 use Rattle.index.specs.Held.{at}
+use Rattle.refusals.specs.declared.ChangeBufferError.{ChangeBufferError}
 use Rattle.refusals.specs.declared.ChangeBufferError.TheVariants.{RowFull}
 use Rattle.book.specs.Limits.{segment_text_limit, segment_number_limit, most_count}
 use Rattle.book.specs.Maps.{find, put}
@@ -16,11 +18,15 @@ use Rattle.book.specs.Actions.{fault, went, stopped, ◌>>=◌, give, look, ask,
 use Rattle.book.specs.Flush.{write_found, write_segment}
 use Rattle.book.proofs.Boths.{both-left-none}
 use Rattle.tables.specs.declared.segment.Segment.{Segment}
+use Rattle.tables.specs.declared.tables.Tables.{Tables}
 use Rattle.tables.specs.Store.{Store, store, Rowed, chained, segment_at, free}
 use Rattle.tables.specs.InOrder.{InOrder}
 use Rattle.tables.specs.Shows.{text_pair, number_pair, LikeSegment, Shows}
 use Rattle.operations.specs.Inserts.{one_longer, Inserts}
-use Rattle.operations.specs.Done.{RowMoved, Done, NoneMade, gone}
+use Rattle.operations.specs.declared.values.PairKind.{PairKind}
+use Rattle.operations.specs.declared.values.PairKind.TheVariants.{Meta, Metric}
+use Rattle.operations.specs.Parts.{with_segment_pairs, with_seats}
+use Rattle.operations.specs.Done.{RowMoved, Done, NoneMade, OnSeat, OnSegmentIfStanding, gone}
 use Rattle.operations.proofs.Taking.{put_same, seats-within}
 use Rattle.operations.proofs.Keeping.{records-same, records-set}
 use Rattle.operations.proofs.Segments.{seat_stands, seat_order, seat_shown, seat_own}
@@ -98,7 +104,7 @@ done_dropped bytes m id w o none = record {
 -- ---- one that stands
 
 module _ {T : Type 0} (m : Store T) (o : InOrder m) (id g : ℕ) (own : at m.seats id ≡ Some g) where
-  seat_within : g < length m.segments
+  pub seat_within : g < length m.segments
   seat_within = seats-within m o id g own
 
   module _ (y : Segment T) (is : slice_get m.segments g ≡ Some y) where
@@ -195,3 +201,10 @@ module _ {T : Type 0} (m : Store T) (o : InOrder m) (id g : ℕ) (own : at m.sea
         subst (λ zs. Done bytes (write_segment id (metric (bytes k) v)) NoneMade m (store m.spans m.span_meta m.span_metrics zs m.segment_meta ns' m.strings m.defaults m.settings m.ids m.ids_room m.seats m.seats_room) (Err (RowFull id))) (sym same)
         (subst (λ zs. Done bytes (write_segment id (metric (bytes k) v)) NoneMade m (store m.spans m.span_meta m.span_metrics m.segments m.segment_meta zs m.strings m.defaults m.settings m.ids m.ids_room m.seats m.seats_room) (Err (RowFull id))) (sym i.1)
         (done_full bytes (metric (bytes k) v) (λ s t n. let le = i.0 in le-ltb (length (numbers s.since)) 16 (omega (arith, n, le)))))
+
+-- ---- a pair on a segment that is looked up, and stands
+
+pub seated : {T : Type 0} (bytes : T → Text) (id g : ℕ) (w : Writing) (k : PairKind) (t n : Tables T) (ys ys' : List (Segment T)) (es : List Entry) (a : Result (Unit {0}) ChangeBufferError) → at es id ≡ Some g
+    → OnSeat bytes id g w (with_segment_pairs k t ys) (with_segment_pairs k n ys') a → OnSegmentIfStanding bytes id w (λ m. with_seats es (with_segment_pairs k t ys m)) (λ m. with_seats es (with_segment_pairs k n ys' m)) a
+seated bytes id g w Meta t n ys ys' es a own d = λ m o. d (with_seats es m) o own
+seated bytes id g w Metric t n ys ys' es a own d = λ m o. d (with_seats es m) o own

@@ -253,7 +253,7 @@ module _ {T : Type 0} (m : Store T) (o : InOrder m) (id r : ℕ) (own : at m.ids
       abbrev pub span_written : Store T
       span_written = store (set m.spans r x') ms' ns' m.segments m.segment_meta m.segment_metrics m.strings m.defaults m.settings m.ids m.ids_room m.seats m.seats_room
 
-      done_written : Done bytes (write_span id w) NoneMade m span_written (Ok tt)
+      pub done_written : Done bytes (write_span id w) NoneMade m span_written (Ok tt)
       done_written =
           let l = live-is in
           let k : x'.mark ≡ Live = marked ∙ l.0 in
@@ -272,7 +272,7 @@ module _ {T : Type 0} (m : Store T) (o : InOrder m) (id r : ℕ) (own : at m.ids
           }
 
     -- a writing that does not
-    done_full : (bytes : T → Text) (w : Writing) → ((s : book.Span) → length (span_texts s) ≡ x.meta.count → length (span_numbers s) ≡ x.metrics.count → has_place span_text_limit span_number_limit (written s) w ≡ false)
+    pub done_full : (bytes : T → Text) (w : Writing) → ((s : book.Span) → length (span_texts s) ≡ x.meta.count → length (span_numbers s) ≡ x.metrics.count → has_place span_text_limit span_number_limit (written s) w ≡ false)
         → Done bytes (write_span id w) NoneMade m m (Err (RowFull id))
     done_full bytes w no_place = done_refused bytes (write_span id w) NoneMade m (row_full id) (RowFull id) refl o (λ b rest h.
         let s = own_span bytes b h in write-full id w b rest s.span s.found (no_place s.span s.texts_long s.numbers_long))

@@ -33,6 +33,24 @@ module _ {T : Type 0} where
   abbrev pub with_segment_metrics : List (T × ℕ) → Store T → Store T
   with_segment_metrics ns m = store m.spans m.span_meta m.span_metrics m.segments m.segment_meta ns m.strings m.defaults m.settings m.ids m.ids_room m.seats m.seats_room
 
+  -- the span records, and their rows for pairs of this kind
+  abbrev pub with_pairs : PairKind → Tables T → Store T → Store T
+  with_pairs Meta t m = with_span_meta t.span_meta.now (with_spans t.spans.now m)
+  with_pairs Metric t m = with_span_metrics t.span_metrics.now (with_spans t.spans.now m)
+
+  -- the segment records, and their rows for pairs of this kind
+  abbrev pub with_segment_pairs : PairKind → Tables T → List (Segment T) → Store T → Store T
+  with_segment_pairs Meta t ys m = with_segment_meta t.segment_meta.now (with_segments ys m)
+  with_segment_pairs Metric t ys m = with_segment_metrics t.segment_metrics.now (with_segments ys m)
+
+  -- the span records, and their rows for pairs of both kinds
+  abbrev pub with_span_rows : Tables T → Store T → Store T
+  with_span_rows t m = with_span_metrics t.span_metrics.now (with_span_meta t.span_meta.now (with_spans t.spans.now m))
+
+  -- the segment records, and their rows for pairs of both kinds
+  abbrev pub with_segment_rows : Tables T → List (Segment T) → Store T → Store T
+  with_segment_rows t ys m = with_segment_metrics t.segment_metrics.now (with_segment_meta t.segment_meta.now (with_segments ys m))
+
   -- what the segment index holds
   abbrev pub with_seats : List Entry → Store T → Store T
   with_seats es m = store m.spans m.span_meta m.span_metrics m.segments m.segment_meta m.segment_metrics m.strings m.defaults m.settings m.ids m.ids_room es m.seats_room

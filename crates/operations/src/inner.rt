@@ -1,4 +1,4 @@
-// The operations on tables in order: each is lent only what it changes, and its caller sees to the order.
+// The operations on tables in order, to which their caller sees. Those that are lent all tables say which alone they change.
 pub mod create;
 pub mod fields;
 pub mod pairs;

@@ -3,9 +3,10 @@
 // `only` is a clause: it relates the tables before and after, which no type can hold.
 ghost use Rattle.std.specs.Prelude.{ℕ};
 ghost use Rattle.layout.specs.Reads.{held};
+ghost use Rattle.recorder.specs.Strings.{with_strings};
 ghost use Rattle.operations.specs.declared.values.PairKind.{PairKind};
 ghost use Rattle.operations.specs.Done.{SegmentRows};
-ghost use Rattle.operations.specs.Parts.{RowsOnly, with_seated};
+ghost use Rattle.operations.specs.Parts.{RowsOnly, with_seats, with_segment_rows};
 ghost use Rattle.interpret.specs.Played.{note_attribute, OnAny};
 ghost use Rattle.flush.specs.Operation.{segment_attribute};
 
@@ -28,7 +29,7 @@ pub fn on_segment<T: Text, G: Index>(
     operation: OnSegment,
 ) -> Result<()>
     requires rows { (kind : PairKind) → SegmentRows kind tables.old segments.old (G.content by_segment.now).held }
-    ensures played { OnAny T.bytes (note_attribute (segment_attribute operation) segment) (held buffer.now) (with_seated tables.old segments.old (G.content by_segment.now).held) (with_seated tables.new segments.new (G.content by_segment.now).held) index.old index.new result }
+    ensures played { OnAny T.bytes (note_attribute (segment_attribute operation) segment) (held buffer.now) (λ m. with_strings tables.old.strings.now (with_seats (G.content by_segment.now).held (with_segment_rows tables.old segments.old m))) (λ m. with_strings tables.new.strings.now (with_seats (G.content by_segment.now).held (with_segment_rows tables.new segments.new m))) index.old index.new result }
     ensures only { RowsOnly tables.old tables.new }
 {
     match operation {

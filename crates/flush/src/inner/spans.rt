@@ -3,8 +3,9 @@
 // `only` is a clause: it relates the tables before and after, which no type can hold.
 ghost use Rattle.std.specs.Prelude.{ℕ};
 ghost use Rattle.layout.specs.Reads.{held};
+ghost use Rattle.recorder.specs.Strings.{with_strings};
 ghost use Rattle.operations.specs.declared.values.PairKind.{PairKind};
-ghost use Rattle.operations.specs.Parts.{HasRow, SpansOnly, with_tables};
+ghost use Rattle.operations.specs.Parts.{HasRow, SpansOnly, with_span_rows};
 ghost use Rattle.interpret.specs.Played.{OnLive};
 ghost use Rattle.flush.specs.Operation.{span_act};
 
@@ -25,7 +26,7 @@ pub fn on_span<T: Text>(
     operation: OnSpan,
 ) -> Result<()>
     requires rows { (kind : PairKind) → HasRow kind tables.old found.number }
-    ensures played { OnLive T.bytes found.id found.number (span_act operation found.id) (held buffer.now) (with_tables tables.old) (with_tables tables.new) index.old index.new result }
+    ensures played { OnLive T.bytes found.id found.number (span_act operation found.id) (held buffer.now) (λ m. with_strings tables.old.strings.now (with_span_rows tables.old m)) (λ m. with_strings tables.new.strings.now (with_span_rows tables.new m)) index.old index.new result }
     ensures only { SpansOnly tables.old tables.new }
 {
     match operation {

@@ -5,7 +5,8 @@ ghost use Rattle.std.specs.Prelude.{◌≡◌, ℕ};
 ghost use Rattle.layout.specs.Reads.{held};
 ghost use Rattle.book.specs.Actions.{times};
 ghost use Rattle.book.specs.Flush.{set_attribute};
-ghost use Rattle.operations.specs.Parts.{HasRow, PairOnly, with_tables};
+ghost use Rattle.recorder.specs.Strings.{with_strings};
+ghost use Rattle.operations.specs.Parts.{HasRow, PairOnly, with_pairs};
 ghost use Rattle.interpret.specs.Attributes.{pair_attribute};
 ghost use Rattle.interpret.specs.Played.{OnLive, set_counted};
 
@@ -25,7 +26,7 @@ pub fn batch_set_pairs<T: Text>(
     kind: PairKind,
 ) -> Result<()>
     requires row { HasRow kind tables.old found.number }
-    ensures played { OnLive T.bytes found.id found.number (set_counted (pair_attribute kind) found.id) (held buffer.now) (with_tables tables.old) (with_tables tables.new) index.old index.new result }
+    ensures played { OnLive T.bytes found.id found.number (set_counted (pair_attribute kind) found.id) (held buffer.now) (λ m. with_strings tables.old.strings.now (with_pairs kind tables.old m)) (λ m. with_strings tables.new.strings.now (with_pairs kind tables.new m)) index.old index.new result }
     ensures only { PairOnly kind tables.old tables.new }
     ensures row { HasRow kind tables.new found.number }
 {
@@ -42,7 +43,7 @@ fn set_pairs<T: Text>(
     count: u32,
 ) -> Result<()>
     requires row { HasRow kind tables.old found.number }
-    ensures played { OnLive T.bytes found.id found.number (times count (set_attribute (pair_attribute kind) found.id)) (held buffer.now) (with_tables tables.old) (with_tables tables.new) index.old index.new result }
+    ensures played { OnLive T.bytes found.id found.number (times count (set_attribute (pair_attribute kind) found.id)) (held buffer.now) (λ m. with_strings tables.old.strings.now (with_pairs kind tables.old m)) (λ m. with_strings tables.new.strings.now (with_pairs kind tables.new m)) index.old index.new result }
     ensures only { PairOnly kind tables.old tables.new }
     ensures row { HasRow kind tables.new found.number }
 {

@@ -5,7 +5,7 @@ ghost use Rattle.std.specs.Prelude.{◌≡◌, ℕ, length};
 ghost use Rattle.layout.specs.Reads.{held};
 ghost use Rattle.recorder.specs.Strings.{with_strings};
 ghost use Rattle.operations.specs.Done.{HeldWithin, SegmentRows};
-ghost use Rattle.operations.specs.Parts.{SegmentPairOnly, with_segments, with_seats, with_seated};
+ghost use Rattle.operations.specs.Parts.{SegmentPairOnly, with_segments, with_segment_pairs, with_seats};
 ghost use Rattle.interpret.specs.Attributes.{origin_attribute, pair_attribute};
 ghost use Rattle.interpret.specs.Played.{note_attribute, OnAny};
 
@@ -29,7 +29,7 @@ pub fn set_trace_pair<T: Text, G: Index>(
     kind: PairKind,
 ) -> Result<()>
     requires rows { SegmentRows kind tables.old segments.old (G.content by_segment.now).held }
-    ensures played { OnAny T.bytes (note_attribute (pair_attribute kind) segment) (held buffer.now) (with_seated tables.old segments.old (G.content by_segment.now).held) (with_seated tables.new segments.new (G.content by_segment.now).held) index.old index.new result }
+    ensures played { OnAny T.bytes (note_attribute (pair_attribute kind) segment) (held buffer.now) (λ m. with_strings tables.old.strings.now (with_seats (G.content by_segment.now).held (with_segment_pairs kind tables.old segments.old m))) (λ m. with_strings tables.new.strings.now (with_seats (G.content by_segment.now).held (with_segment_pairs kind tables.new segments.new m))) index.old index.new result }
     ensures only { SegmentPairOnly kind tables.old tables.new }
 {
     let pair = read_pair(buffer, index, tables.strings(), kind)?;

@@ -4,7 +4,8 @@
 ghost use Rattle.std.specs.Prelude.{◌≡◌, ℕ, ◌<◌, length};
 ghost use Rattle.layout.specs.Reads.{held};
 ghost use Rattle.book.specs.Flush.{set_attribute};
-ghost use Rattle.operations.specs.Parts.{FieldsOnly, HasRow, PairOnly, with_tables};
+ghost use Rattle.recorder.specs.Strings.{with_strings};
+ghost use Rattle.operations.specs.Parts.{FieldsOnly, HasRow, PairOnly, with_pairs, with_spans};
 ghost use Rattle.interpret.specs.Attributes.{attribute_of, pair_attribute};
 ghost use Rattle.interpret.specs.Played.{OnLive};
 
@@ -19,6 +20,8 @@ use refusals::Result;
 use tables::tables::Tables;
 use texts::Text;
 
+// Inlined, for the sake of batches.
+#[inline(always)]
 pub fn set_pair<T: Text>(
     buffer: &ChangeBuffer,
     index: &mut usize,
@@ -27,7 +30,7 @@ pub fn set_pair<T: Text>(
     kind: PairKind,
 ) -> Result<()>
     requires row { HasRow kind tables.old found.number }
-    ensures played { OnLive T.bytes found.id found.number (set_attribute (pair_attribute kind) found.id) (held buffer.now) (with_tables tables.old) (with_tables tables.new) index.old index.new result }
+    ensures played { OnLive T.bytes found.id found.number (set_attribute (pair_attribute kind) found.id) (held buffer.now) (λ m. with_strings tables.old.strings.now (with_pairs kind tables.old m)) (λ m. with_strings tables.new.strings.now (with_pairs kind tables.new m)) index.old index.new result }
     ensures only { PairOnly kind tables.old tables.new }
     ensures row { HasRow kind tables.new found.number }
 {
@@ -43,7 +46,7 @@ pub fn set_span_field<T: Text>(
     name: FieldName,
 ) -> Result<()>
     requires within { found.number < length tables.old.spans.now }
-    ensures played { OnLive T.bytes found.id found.number (set_attribute (attribute_of name) found.id) (held buffer.now) (with_tables tables.old) (with_tables tables.new) index.old index.new result }
+    ensures played { OnLive T.bytes found.id found.number (set_attribute (attribute_of name) found.id) (held buffer.now) (λ m. with_strings tables.old.strings.now (with_spans tables.old.spans.now m)) (λ m. with_strings tables.new.strings.now (with_spans tables.new.spans.now m)) index.old index.new result }
     ensures only { FieldsOnly tables.old tables.new }
 {
     let field = read_field(buffer, index, tables.strings(), name)?;

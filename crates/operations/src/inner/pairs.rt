@@ -2,7 +2,7 @@
 // `only` is a clause: it relates the tables before and after, which no type can hold.
 ghost use Rattle.operations.specs.Done.{OnSpanHeld};
 ghost use Rattle.operations.specs.Fields.{kind_of, pair_written};
-ghost use Rattle.operations.specs.Parts.{HasRow, PairOnly, with_tables};
+ghost use Rattle.operations.specs.Parts.{HasRow, PairOnly, with_pairs};
 
 use crate::inner::rows::insert_below;
 use crate::values::Pair;
@@ -16,7 +16,7 @@ use texts::Text;
 // limits and heads differ, here and on segments, and a trait that gives all four for each would be no plainer.)
 pub fn add_pair<T: Text>(tables: &mut Tables<'_, T>, found: Entry, pair: Pair<T>) -> Result<()>
     requires row { HasRow (kind_of pair) tables.old found.number }
-    ensures done { OnSpanHeld T.bytes found.id found.number (pair_written T.bytes pair) (with_tables tables.old) (with_tables tables.new) result }
+    ensures done { OnSpanHeld T.bytes found.id found.number (pair_written T.bytes pair) (with_pairs (kind_of pair) tables.old) (with_pairs (kind_of pair) tables.new) result }
     ensures row { HasRow (kind_of pair) tables.new found.number }
     ensures only { PairOnly (kind_of pair) tables.old tables.new }
 {

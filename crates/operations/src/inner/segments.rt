@@ -4,7 +4,7 @@ ghost use Rattle.std.specs.Prelude.{◌≡◌, ℕ, ◌<◌, length, Ok};
 ghost use Rattle.book.specs.Book.{origin, text, ◌≔◌};
 ghost use Rattle.operations.specs.Done.{OnSeat, OnSegmentIfStanding, HeldWithin, SegmentRows};
 ghost use Rattle.operations.specs.Fields.{kind_of, pair_written};
-ghost use Rattle.operations.specs.Parts.{HasSegmentRow, SegmentPairOnly, with_segments, with_seats, with_tables, with_seated};
+ghost use Rattle.operations.specs.Parts.{HasSegmentRow, SegmentPairOnly, with_segments, with_segment_pairs, with_seats};
 
 use crate::inner::rows::insert_below;
 use crate::values::Pair;
@@ -24,7 +24,7 @@ pub fn add_segment_pair<T: Text, G: Index>(
     pair: Pair<T>,
 ) -> Result<()>
     requires rows { SegmentRows (kind_of pair) tables.old segments.old (G.content by_segment.now).held }
-    ensures done { OnSegmentIfStanding T.bytes id (pair_written T.bytes pair) (with_seated tables.old segments.old (G.content by_segment.now).held) (with_seated tables.new segments.new (G.content by_segment.now).held) result }
+    ensures done { OnSegmentIfStanding T.bytes id (pair_written T.bytes pair) (λ m. with_seats (G.content by_segment.now).held (with_segment_pairs (kind_of pair) tables.old segments.old m)) (λ m. with_seats (G.content by_segment.now).held (with_segment_pairs (kind_of pair) tables.new segments.new m)) result }
     ensures only { SegmentPairOnly (kind_of pair) tables.old tables.new }
 {
     match by_segment.find(id) {
@@ -41,7 +41,7 @@ fn pair_at<T: Text>(
     pair: Pair<T>,
 ) -> Result<()>
     requires row { HasSegmentRow (kind_of pair) tables.old segments.old found.number }
-    ensures done { OnSeat T.bytes found.id found.number (pair_written T.bytes pair) (λ m. with_segments segments.old (with_tables tables.old m)) (λ m. with_segments segments.new (with_tables tables.new m)) result }
+    ensures done { OnSeat T.bytes found.id found.number (pair_written T.bytes pair) (with_segment_pairs (kind_of pair) tables.old segments.old) (with_segment_pairs (kind_of pair) tables.new segments.new) result }
     ensures only { SegmentPairOnly (kind_of pair) tables.old tables.new }
 {
     let number = found.number;

@@ -7,10 +7,10 @@ use Rattle.index.specs.Held.{at}
 use Rattle.operations.specs.Done.{NoneMade}
 use Rattle.operations.proofs.Taking.{ids-within}
 use Rattle.interpret.specs.Creation.{fields_of}
-use Rattle.interpret.specs.Played.{Played}
+use Rattle.interpret.specs.Played.{Played, note_attribute}
 use Rattle.flush.specs.Found.{SegmentAt}
 use Rattle.flush.specs.Operation.{span_act, segment_attribute}
-use Rattle.flush.proofs.Performing.{as_passed, has_row, segment_rows, span_then, span-missing, segment_then, segment-missing}
+use Rattle.flush.proofs.Performing.{as_passed, has_row, segment_rows, segment_tables, segment_then, segment-missing, span_tables, span_then, span-missing}
 use Rattle.flush.proofs.Operating.{still_cached}
 use Rattle.flush.proofs.inner.flushing.perform.Goals as goal
 
@@ -41,6 +41,7 @@ on_span-requires g c = record { rows = has_row c.args.tables.now c.args.segments
 
 pub returns-in_ok-found-in-Spans-clause-played : goal.returns-in_ok-found-in-Spans-clause-played
 returns-in_ok-found-in-Spans-clause-played g c =
+    let f = c.in_ok-found-in-Spans.found in
     let finds = c.in_ok-found-in-Spans.ensures.finds in
     let b = held c.args.buffer.now in
     let m = passed c.args.tables.now c.args.segments.now c.args.settings.now (g.S.Index.content c.args.by_id.now) (g.G.Index.content c.args.by_segment.now) in
@@ -48,7 +49,7 @@ returns-in_ok-found-in-Spans-clause-played g c =
     rw c.in-Spans.is
     (span_then g.T.Text.bytes b m c.args.id c.args.index.now c.requires.order c.in_ok-found-in-Spans.found.number finds.1 c.in-Spans.on m' c.on_span.new.index c.on_span.result
     (subst (λ (q : ℕ). Played g.T.Text.bytes (span_act c.in-Spans.on q) NoneMade b m m' c.args.index.now c.on_span.new.index c.on_span.result) finds.0
-    (c.on_span.ensures.played m c.requires.order (ap (at (g.S.Index.content c.args.by_id.now).held) finds.0 ∙ finds.1))))
+    (span_tables g.T.Text.bytes (span_act c.in-Spans.on f.id) b c.args.tables.now c.on_span.new.tables c.args.index.now c.on_span.new.index c.on_span.result f.id f.number c.on_span.ensures.only c.on_span.ensures.played m c.requires.order (ap (at (g.S.Index.content c.args.by_id.now).held) finds.0 ∙ finds.1))))
 
 pub returns-in_err-found-in-Segments-clause-played : goal.returns-in_err-found-in-Segments-clause-played
 returns-in_err-found-in-Segments-clause-played g c =
@@ -70,4 +71,5 @@ returns-in_ok-found-in-Segments-clause-played g c =
     let m = passed c.args.tables.now c.args.segments.now c.args.settings.now (g.S.Index.content c.args.by_id.now) (g.G.Index.content c.args.by_segment.now) in
     rw c.in-Segments.is
     (segment_then g.T.Text.bytes (held c.args.buffer.now) m c.args.id c.args.index.now c.requires.order c.in_ok-found-in-Segments.found.number c.in_ok-found-in-Segments.ensures.finds.1 (segment_attribute c.in-Segments.on) c.segment_of-segment.result _ _ _ (subst (λ xs. SegmentAt xs c.in_ok-found-in-Segments.found.number c.segment_of-segment.result) c.spans.ensures c.segment_of-segment.ensures)
-    (c.on_segment.ensures.played m c.requires.order))
+    (segment_tables g.T.Text.bytes (note_attribute (segment_attribute c.in-Segments.on) c.segment_of-segment.result) (held c.args.buffer.now) c.args.tables.now c.on_segment.new.tables c.args.index.now c.on_segment.new.index c.on_segment.result
+    c.args.segments.now c.on_segment.new.segments (g.G.Index.content c.args.by_segment.now).held c.on_segment.ensures.only c.on_segment.ensures.played m c.requires.order))
