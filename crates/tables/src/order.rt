@@ -4,7 +4,7 @@ ghost use Rattle.tables.specs.InOrder.{InOrder, Lengths, ChecksOrder, OthersInOr
 ghost use Rattle.tables.specs.Lent.{passed};
 ghost use Rattle.tables.specs.Shows.{ShowsABook};
 
-use crate::record::{Record, kept_in};
+use crate::record::{TableSize, kept_in};
 use crate::segment::Segment;
 use crate::settings::Settings;
 use crate::tables::{MOST_DEFAULTS, MOST_STRINGS, Tables};
@@ -13,7 +13,7 @@ use refusals::ChangeBufferError;
 use texts::Text;
 
 // Whether a table has at least one record and no more than it may, two rows for each, and an index with room for all.
-fn lengths_allowed<R: Record, T, I: Index>(
+fn lengths_allowed<R: TableSize, T, I: Index>(
     records: &[R],
     texts: &[(T, T)],
     numbers: &[(T, u64)],

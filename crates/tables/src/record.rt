@@ -10,19 +10,13 @@ use crate::{segment, span};
 use index::Index;
 use texts::Text;
 
-// A record of a table that an index goes over.
-pub trait Record {
+// How large a table of such records may be, and its rows.
+pub trait TableSize {
     ghost MOST: { ℕ };
 
     ghost TEXT_ROW: { ℕ };
 
     ghost NUMBER_ROW: { ℕ };
-
-    // The id under which the index has to hold it, none where it is not in use.
-    ghost key_of: { Self → Maybe ℕ };
-
-    // What its counts are held to.
-    ghost limits: { Self → Type 0 };
 
     // How many records a table may have.
     const MOST: usize;
@@ -31,6 +25,15 @@ pub trait Record {
     const TEXT_ROW: usize;
 
     const NUMBER_ROW: usize;
+}
+
+// A record of a table that an index goes over.
+pub trait Record {
+    // The id under which the index has to hold it, none where it is not in use.
+    ghost key_of: { Self → Maybe ℕ };
+
+    // What its counts are held to.
+    ghost limits: { Self → Type 0 };
 
     fn key(&self) -> Option<u64>
         ensures { result ≡ key_of self.now };
@@ -39,22 +42,24 @@ pub trait Record {
         ensures { IsTrue result ↔ (limits self.now) };
 }
 
-impl<T: Text> Record for Span<T> {
+impl<T: Text> TableSize for Span<T> {
     ghost MOST = { most_spans };
 
     ghost TEXT_ROW = { span_text_row };
 
     ghost NUMBER_ROW = { span_number_row };
 
-    ghost key_of = { live_key };
-
-    ghost limits = { SpanLimits };
-
     const MOST: usize = 4096;
 
     const TEXT_ROW: usize = span::TEXT_ROW;
 
     const NUMBER_ROW: usize = span::NUMBER_ROW;
+}
+
+impl<T: Text> Record for Span<T> {
+    ghost key_of = { live_key };
+
+    ghost limits = { SpanLimits };
 
     fn key(&self) -> Option<u64> {
         (self.mark == Mark::Live).then_some(self.id)
@@ -71,22 +76,24 @@ impl<T: Text> Record for Span<T> {
     }
 }
 
-impl<T: Text> Record for Segment<T> {
+impl<T: Text> TableSize for Segment<T> {
     ghost MOST = { most_segments };
 
     ghost TEXT_ROW = { segment_text_limit };
 
     ghost NUMBER_ROW = { segment_number_limit };
 
-    ghost key_of = { standing_key };
-
-    ghost limits = { SegmentLimits };
-
     const MOST: usize = 256;
 
     const TEXT_ROW: usize = segment::TEXT_ROW;
 
     const NUMBER_ROW: usize = segment::NUMBER_ROW;
+}
+
+impl<T: Text> Record for Segment<T> {
+    ghost key_of = { standing_key };
+
+    ghost limits = { SegmentLimits };
 
     fn key(&self) -> Option<u64> {
         (self.count > 0).then_some(self.id)
