@@ -6,16 +6,11 @@ use Rattle.book.specs.Book.{Text, Setup, new_book}
 use Rattle.tables.specs.declared.span.Mark.TheVariants.{Free}
 use Rattle.tables.specs.declared.span.Span.{Span}
 use Rattle.tables.specs.declared.segment.Segment.{Segment}
-use Rattle.tables.specs.declared.settings.Settings.{Settings}
 use Rattle.tables.specs.Store.{Store, store}
 use Rattle.tables.specs.InOrder.{Sized}
 use Rattle.tables.specs.Shows.{Shows}
 use Rattle.tables.proofs.Emptied.{emptied}
-use Rattle.recorder.specs.Setup.{SetsUp}
-
--- the settings afterwards
-abbrev fresh : {T : Type 0} → (service language : T) → (pid : ℕ) → Settings T
-fresh s l p = record { service = s; language = l; pid = p; defaults = 0; next_free = 0 }
+use Rattle.recorder.specs.Setup.{SetsUp, fresh}
 
 module _ {T : Type 0} (bytes : T → Text) (m : Store T) (xs : List (Span T)) (gs : List (Segment T)) (ss : List (Option T)) (ids : List Entry) (room : ℕ) (seats : List Entry) (seats_room : ℕ) (s l : T) (p : ℕ) where
   abbrev pub cleared : Store T

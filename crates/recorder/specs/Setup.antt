@@ -3,6 +3,7 @@ use Rattle.std.specs.Prelude.{◌≡◌, ℕ, length, Ok, Err, Result}
 use Rattle.refusals.specs.declared.ChangeBufferError.{ChangeBufferError}
 use Rattle.refusals.specs.declared.ChangeBufferError.TheVariants.{OutOfOrder}
 use Rattle.book.specs.Book.{Text, Setup, new_book}
+use Rattle.tables.specs.declared.settings.Settings.{Settings}
 use Rattle.tables.specs.Store.{Store}
 use Rattle.tables.specs.InOrder.{Sized}
 use Rattle.tables.specs.Shows.{Shows}
@@ -32,3 +33,7 @@ pub record RowsStay {T : Type 0} (before after : Store T) : Type 0 where
 abbrev pub SetsUp : {T : Type 0} → (T → Text) → (service language : T) → (pid : ℕ) → (before after : Store T) → Result (Unit {0}) ChangeBufferError → Type 0
 SetsUp bytes s l p before after (Ok x) = Sized before × Shows bytes after (new_book (told_of bytes s l p before)) × RowsStay before after
 SetsUp bytes s l p before after (Err e) = (Sized before → ⊥) × (e ≡ OutOfOrder) × (after ≡ before)
+
+-- the settings afterwards
+abbrev pub fresh : {T : Type 0} → (service language : T) → (pid : ℕ) → Settings T
+fresh s l p = record { service = s; language = l; pid = p; defaults = 0; next_free = 0 }

@@ -1,6 +1,7 @@
 // Set-up: an empty recorder in the lent tables.
+ghost use Rattle.std.specs.Prelude.{◌≡◌, OnOk};
 ghost use Rattle.tables.specs.Lent.{SameMemory, passed};
-ghost use Rattle.recorder.specs.Setup.{SetsUp};
+ghost use Rattle.recorder.specs.Setup.{SetsUp, fresh};
 
 use index::Index;
 use refusals::ChangeBufferError;
@@ -28,6 +29,7 @@ pub fn set_up<T: Text, S: Index, G: Index>(
         (passed tables.old segments.old settings.old (S.content by_id.old) (G.content by_segment.old))
         (passed tables.new segments.new settings.new (S.content by_id.new) (G.content by_segment.new))
         result }
+    ensures settings { OnOk result (settings.new ≡ fresh service language pid) }
 {
     // Another question than that of the other calls, and asked here alone.
     if !tables_sized(tables, segments, settings, by_id, by_segment) {
