@@ -1,11 +1,11 @@
 -- Bytes that stand in a buffer: one part after another, and the bytes of a number that is read.
-use Rattle.std.proofs.Common.{◌≡◌, ℕ, zero, suc, ◌+◌, ◌-◌, ◌*◌, ◌/◌, ◌%◌, ◌^◌, ◌<◌, ◌≤◌, List, [], ◌∷◌, ◌++◌, length, take, drop, sym, refl, ap, ◌∙◌, arith, length-drop, length-take-le, get_or, get_or-drop, take-add, w32, w64}
+use Rattle.std.proofs.Common.{◌≡◌, ℕ, zero, suc, ◌+◌, ◌-◌, ◌*◌, ◌/◌, ◌%◌, ◌^◌, ◌<◌, ◌≤◌, List, [], ◌∷◌, ◌++◌, length, take, drop, sym, refl, ap, ◌∙◌, arith, length-drop, length-take-le, get_or-drop, take-add, w32, w64}
 use Rattle.std.proofs.Math.Facts.{of_z-to_z}
 use Rattle.std.specs.List.{between}
 use Rattle.std.proofs.lemmas.List.{drop-drop}
 use Rattle.layout.specs.Numbers.{le}
 use Rattle.layout.specs.Reads.{number_at}
-use native.Mathlib.Nat.{one-le-pow, pow-succ'}
+use Rattle.layout.proofs.Little.{le_bound}
 use Rattle.decode.specs.declared.operand.Kind.{Kind}
 use Rattle.decode.specs.declared.operand.Kind.TheVariants as kinds
 use Rattle.decode.specs.declared.operand.Label.{Label}
@@ -71,14 +71,6 @@ number-meant kinds.Float n h = refl
 number-meant kinds.Long n h = of_z-to_z {w = w64} (record { fits = h })
 number-meant kinds.Int n h = of_z-to_z {w = w32} (record { fits = h })
 number-meant kinds.Count n h = refl
-
-le_bound : (n : ℕ) (xs : List ℕ) → ((k : ℕ) → get_or xs k 0 < 256) → le (take n xs) < 256 ^ n
-le_bound zero xs h = omega arith
-le_bound (suc n) [] h = one-le-pow (suc n) 256 (omega arith)
-le_bound (suc n) (x ∷ xs) h =
-    let low : x < 256 = h 0 in
-    let rest = le_bound n xs (λ k. h (suc k)) in
-    rw pow-succ' (omega arith)
 
 -- an operand that is read, written again
 pub stand_operand : (buffer : List ℕ) (place : ℕ) (label : Label) (k : Kind) → place + size k ≤ length buffer → Stand buffer place (place + size k) (operand_bytes (record { label = label; value = meant k (number_at (size k) buffer place) }))

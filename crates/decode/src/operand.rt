@@ -1,5 +1,5 @@
 // Operands of an operation: what each is called, how it lies in the buffer, and its value.
-ghost use Rattle.std.specs.Prelude.{Some};
+ghost use Rattle.std.specs.Prelude.{◌≡◌, Some};
 ghost use Rattle.layout.specs.Reads.{Reads, held};
 ghost use Rattle.decode.specs.Operands.{label_name, meant, size};
 
@@ -27,12 +27,11 @@ pub enum Label {
     Count,
 }
 
-// In the words of a listing; the derived `Debug` writes those of the code.
-impl fmt::Display for Label {
-    ghost output = { λ l. Some (label_name l) };
-
-    fn fmt<W: fmt::Write>(&self, f: &mut fmt::Formatter<W>) -> fmt::Result {
-        f.write_str(match self {
+impl Label {
+    pub fn name(self) -> &'static str
+        ensures value { result.now ≡ label_name self }
+    {
+        match self {
             Label::Trace => "trace",
             Label::Segment => "segment",
             Label::Parent => "parent",
@@ -47,7 +46,16 @@ impl fmt::Display for Label {
             Label::Error => "error",
             Label::Origin => "origin",
             Label::Count => "count",
-        })
+        }
+    }
+}
+
+// In the words of a listing; the derived `Debug` writes those of the code.
+impl fmt::Display for Label {
+    ghost output = { λ l. Some (label_name l) };
+
+    fn fmt<W: fmt::Write>(&self, f: &mut fmt::Formatter<W>) -> fmt::Result {
+        f.write_str(self.name())
     }
 }
 
