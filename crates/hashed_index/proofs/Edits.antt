@@ -14,7 +14,7 @@ use Rattle.hashed_index.proofs.Seeks.{within}
 use Rattle.hashed_index.specs.Keeps.{kept-is, kept-missing, kept_update, kept_fill, kept_swap, kept-drop, spot_at}
 
 -- ---- places that are all free
-free-read : (n i : ℕ) → get_or (replicate {A = Option Entry} n None) i None ≡ None
+pub free-read : (n i : ℕ) → get_or (replicate {A = Option Entry} n None) i None ≡ None
 free-read zero i = refl
 free-read (suc n) zero = refl
 free-read (suc n) (suc i) = free-read n i
@@ -23,10 +23,10 @@ pub free-kept : (n : ℕ) → kept (replicate n None) ≡ []
 free-kept zero = refl
 free-kept (suc n) = free-kept n
 
-free_alone : (n : ℕ) → Alone (replicate n None)
+pub free_alone : (n : ℕ) → Alone (replicate n None)
 free_alone n i j w = absurd (none-some w.0 (sym (free-read n i) ∙ w.1))
 
-free-reached : (n : ℕ) → Reached (replicate n None)
+pub free-reached : (n : ℕ) → Reached (replicate n None)
 free-reached n p b w = absurd (none-some w.0 (sym (free-read n p) ∙ w.1))
 
 pub all-free : (ps : List (Option Entry)) (n : ℕ) → ps ≡ replicate n None → (length ps ≡ n) × Alone ps × Reached ps × (0 ≡ length (kept ps))
