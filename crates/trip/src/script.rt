@@ -157,11 +157,11 @@ impl<'a> Line<'a> {
             .split_once('#')
             .map_or(line, |(before, _)| before)
             .trim();
-        match call_of(heap, text) {
-            Ok(Some(call)) => Ok(Some(Line { number, text, call })),
-            Ok(None) => Ok(None),
-            Err(what) => Err(BadScript::Line(number, what)),
+        if text.is_empty() {
+            return Ok(None);
         }
+        let call = call_of(heap, text).map_err(|what| BadScript::Line(number, what))?;
+        Ok(Some(Line { number, text, call }))
     }
 }
 
@@ -175,14 +175,12 @@ fn sizes_with(found: Option<Sizes>, line: &Line<'_>) -> Result<Sizes, BadScript>
     }
 }
 
-// The call of a line without its comment, none where the line is empty.
-fn call_of(heap: Global, line: &str) -> Result<Option<Call>, BadLine> {
+// The call of a line that is not empty, without its comment.
+fn call_of(heap: Global, line: &str) -> Result<Call, BadLine> {
     let mut words = line.split_whitespace();
-    let Some(name) = words.next() else {
-        return Ok(None);
-    };
+    let name = words.next().ok_or(BadLine::Unknown)?;
     let words = &mut words;
-    let call = match name {
+    Ok(match name {
         "setup" => set_up(words)?,
         "string" => Call::StringInsert(
             number(words, Part::StringNumber)?,
@@ -196,8 +194,7 @@ fn call_of(heap: Global, line: &str) -> Result<Option<Call>, BadLine> {
         "handed" => Call::Handed(number(words, Part::RecordNumber)?),
         "numbers" => Call::Numbers,
         _ => return Err(BadLine::Unknown),
-    };
-    Ok(Some(call))
+    })
 }
 
 fn set_up(words: &mut SplitWhitespace<'_>) -> Result<Call, BadLine> {
