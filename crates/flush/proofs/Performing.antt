@@ -15,16 +15,15 @@ use Rattle.book.proofs.Acted.{acts-from, acts_as, acts-find, acts-missing, acts_
 use Rattle.book.proofs.Boths.{both-left-none}
 use Rattle.tables.specs.declared.segment.Segment.{Segment}
 use Rattle.tables.specs.declared.settings.Settings.{Settings}
-use Rattle.tables.specs.declared.tables.Tables.{Tables}
-use Rattle.tables.specs.Lent.{passed}
 use Rattle.tables.specs.Store.{Store, chained, span_at, free}
 use Rattle.tables.specs.InOrder.{InOrder}
 use Rattle.tables.specs.Shows.{LikeSpan, Shows}
 use Rattle.recorder.specs.Answers.{refusal}
 use Rattle.recorder.specs.Strings.{with_strings}
+use Rattle.operations.specs.declared.inner.flush_tables.FlushTables.{FlushTables}
 use Rattle.operations.specs.declared.values.PairKind.{PairKind}
 use Rattle.operations.specs.declared.values.PairKind.TheVariants.{Meta, Metric}
-use Rattle.operations.specs.Parts.{HasRow, FieldsOnly, PairOnly, RowsOnly, SegmentPairOnly, SpansOnly, TextsOnly, create_parts, with_pairs, with_seated, with_seats, with_segment_meta, with_segment_metrics, with_segment_pairs, with_segment_rows, with_span_meta, with_span_metrics, with_span_rows, with_spans, with_tables}
+use Rattle.operations.specs.Parts.{HasRow, FieldsOnly, PairOnly, RowsOnly, SegmentPairOnly, SpansOnly, TextsOnly, create_parts, lent, with_pairs, with_seated, with_seats, with_segment_meta, with_segment_metrics, with_segment_pairs, with_segment_rows, with_span_meta, with_span_metrics, with_span_rows, with_spans, with_tables}
 use Rattle.operations.specs.Done.{ending, NoneMade, SegmentRows, gone}
 use Rattle.operations.proofs.Taking.{ids-within, seats-within}
 use Rattle.operations.proofs.Writing.{rows_within, span-within, text_row-within, number_row-within}
@@ -43,7 +42,7 @@ use Rattle.flush.specs.Operation.{span_meaning, span_act}
 
 -- ---- rows of tables in order
 
-module _ {T : Type 0} (t : Tables T) (ys : List (Segment T)) (s : Settings T) (ids seats : Content) (o : InOrder (passed t ys s ids seats)) where
+module _ {T : Type 0} (t : FlushTables T) (ys : List (Segment T)) (s : Settings T) (ids seats : Content) (o : InOrder (lent t ys s ids seats)) where
   pub has_row : (id r : ℕ) → at ids.held id ≡ Some r → (k : PairKind) → HasRow k t r
   has_row id r own Meta = record { within = span-within _ o id r own; row = text_row-within _ o id r own }
   has_row id r own Metric = record { within = span-within _ o id r own; row = number_row-within _ o id r own }
@@ -54,7 +53,7 @@ module _ {T : Type 0} (t : Tables T) (ys : List (Segment T)) (s : Settings T) (i
 
 -- ---- what changes at most
 
-module _ {T : Type 0} (t n : Tables T) where
+module _ {T : Type 0} (t n : FlushTables T) where
   pub pair_only : (k : PairKind) → PairOnly k t n → SpansOnly t n
   pair_only Meta o = record { memory = o.memory; segment_meta = o.segment_meta; segment_metrics = o.segment_metrics; strings = o.strings; defaults = o.defaults }
   pair_only Metric o = record { memory = o.memory; segment_meta = o.segment_meta; segment_metrics = o.segment_metrics; strings = o.strings; defaults = o.defaults }
@@ -68,7 +67,7 @@ module _ {T : Type 0} (t n : Tables T) where
 
 -- ---- what is promised of some tables, of all
 
-module _ {T : Type 0} (bytes : T → Text) (act : Act (Unit {0})) (buffer : List ℕ) (t n : Tables T) (p p' : ℕ) (a : Result (Unit {0}) ChangeBufferError) where
+module _ {T : Type 0} (bytes : T → Text) (act : Act (Unit {0})) (buffer : List ℕ) (t n : FlushTables T) (p p' : ℕ) (a : Result (Unit {0}) ChangeBufferError) where
   module _ (id r : ℕ) where
     pub pair_rows : (k : PairKind) → PairOnly k t n → OnLive bytes id r act buffer (λ m. with_strings t.strings.now (with_pairs k t m)) (λ m. with_strings n.strings.now (with_pairs k n m)) p p' a
         → OnLive bytes id r act buffer (λ m. with_strings t.strings.now (with_span_rows t m)) (λ m. with_strings n.strings.now (with_span_rows n m)) p p' a
@@ -96,9 +95,9 @@ module _ {T : Type 0} (bytes : T → Text) (act : Act (Unit {0})) (buffer : List
 
 -- ---- a create in the memory that was lent
 
-pub as_passed : {T : Type 0} (t n : Tables T) (ys ys' : List (Segment T)) (s s' : Settings T) (ids ids' seats seats' : Content) → TextsOnly t n
-    → with_strings n.strings.now (create_parts n ys' s' ids' seats' (passed t ys s ids seats)) ≡ passed n ys' s' ids' seats'
-as_passed t n ys ys' s s' ids ids' seats seats' only = rw (only.span_metrics, only.segment_meta, only.segment_metrics) refl
+pub as_lent : {T : Type 0} (t n : FlushTables T) (ys ys' : List (Segment T)) (s s' : Settings T) (ids ids' seats seats' : Content) → TextsOnly t n
+    → with_strings n.strings.now (create_parts n ys' s' ids' seats' (lent t ys s ids seats)) ≡ lent n ys' s' ids' seats'
+as_lent t n ys ys' s s' ids ids' seats seats' only = rw (only.span_metrics, only.segment_meta, only.segment_metrics) refl
 
 module _ {T : Type 0} (bytes : T → Text) (buffer : List ℕ) where
   -- ---- a create is its reads, and then the making

@@ -15,11 +15,10 @@ use Rattle.std.proofs.lemmas.Option.{none-some, slice_get_within}
 use Rattle.recorder.specs.Answers.{refusal}
 use Rattle.recorder.specs.Strings.{with_strings}
 use Rattle.tables.specs.declared.segment.Segment.{Segment}
-use Rattle.tables.specs.declared.tables.Tables.{Tables}
-use Rattle.tables.proofs.Memory.{memory_kept, memory_then}
+use Rattle.operations.specs.declared.inner.flush_tables.FlushTables.{FlushTables}
 use Rattle.operations.specs.declared.values.PairKind.{PairKind}
 use Rattle.operations.specs.declared.values.PairKind.TheVariants.{Meta, Metric}
-use Rattle.operations.specs.Parts.{PairOnly, SegmentPairOnly, with_pairs, with_segment_pairs, with_seats}
+use Rattle.operations.specs.Parts.{PairOnly, SameTables, SegmentPairOnly, with_pairs, with_segment_pairs, with_seats}
 use Rattle.operations.specs.Done.{Unused, RowMoved, RowsMoved, RecordsKept, SpansKept, SegmentsKept, OnSpanHeld, OnSegmentIfStanding, gone}
 use Rattle.operations.proofs.Creating.{at-number}
 use Rattle.operations.proofs.Keeping.{records-same}
@@ -66,19 +65,32 @@ module _ {A : Type 0} (unused : A → Bool) (meta metrics : A → Head) (Made Ma
 
 -- ---- tables
 
--- nothing changed
-pub only_start : {T : Type 0} (k : PairKind) (t : Tables T) → PairOnly k t t
-only_start Meta t = record { memory = memory_kept t; span_metrics = refl; segment_meta = refl; segment_metrics = refl; strings = refl; defaults = refl }
-only_start Metric t = record { memory = memory_kept t; span_meta = refl; segment_meta = refl; segment_metrics = refl; strings = refl; defaults = refl }
+-- tables that nothing was done to are the memory that was lent, and so are those after one call and another
+pub tables_kept : {T : Type 0} (t : FlushTables T) → SameTables t t
+tables_kept t = record { spans = refl; span_meta = refl; span_metrics = refl; segment_meta = refl; segment_metrics = refl }
 
-pub segment_only_start : {T : Type 0} (k : PairKind) (t : Tables T) → SegmentPairOnly k t t
-segment_only_start Meta t = record { memory = memory_kept t; spans = refl; span_meta = refl; span_metrics = refl; segment_metrics = refl; strings = refl; defaults = refl }
-segment_only_start Metric t = record { memory = memory_kept t; spans = refl; span_meta = refl; span_metrics = refl; segment_meta = refl; strings = refl; defaults = refl }
+pub tables_then : {T : Type 0} (t t₁ t₂ : FlushTables T) → SameTables t t₁ → SameTables t₁ t₂ → SameTables t t₂
+tables_then t t₁ t₂ a b = record {
+  spans = b.spans ∙ a.spans;
+  span_meta = b.span_meta ∙ a.span_meta;
+  span_metrics = b.span_metrics ∙ a.span_metrics;
+  segment_meta = b.segment_meta ∙ a.segment_meta;
+  segment_metrics = b.segment_metrics ∙ a.segment_metrics;
+}
+
+-- nothing changed
+pub only_start : {T : Type 0} (k : PairKind) (t : FlushTables T) → PairOnly k t t
+only_start Meta t = record { memory = tables_kept t; span_metrics = refl; segment_meta = refl; segment_metrics = refl; strings = refl; defaults = refl }
+only_start Metric t = record { memory = tables_kept t; span_meta = refl; segment_meta = refl; segment_metrics = refl; strings = refl; defaults = refl }
+
+pub segment_only_start : {T : Type 0} (k : PairKind) (t : FlushTables T) → SegmentPairOnly k t t
+segment_only_start Meta t = record { memory = tables_kept t; spans = refl; span_meta = refl; span_metrics = refl; segment_metrics = refl; strings = refl; defaults = refl }
+segment_only_start Metric t = record { memory = tables_kept t; spans = refl; span_meta = refl; span_metrics = refl; segment_meta = refl; strings = refl; defaults = refl }
 
 -- spans and their rows for pairs of one kind alone changed, and then again
-pub only_then : {T : Type 0} (k : PairKind) (t t₁ t₂ : Tables T) → PairOnly k t t₁ → PairOnly k t₁ t₂ → PairOnly k t t₂
+pub only_then : {T : Type 0} (k : PairKind) (t t₁ t₂ : FlushTables T) → PairOnly k t t₁ → PairOnly k t₁ t₂ → PairOnly k t t₂
 only_then Meta t t₁ t₂ a b = record {
-  memory = memory_then t t₁ t₂ a.memory b.memory;
+  memory = tables_then t t₁ t₂ a.memory b.memory;
   span_metrics = b.span_metrics ∙ a.span_metrics;
   segment_meta = b.segment_meta ∙ a.segment_meta;
   segment_metrics = b.segment_metrics ∙ a.segment_metrics;
@@ -86,7 +98,7 @@ only_then Meta t t₁ t₂ a b = record {
   defaults = b.defaults ∙ a.defaults;
 }
 only_then Metric t t₁ t₂ a b = record {
-  memory = memory_then t t₁ t₂ a.memory b.memory;
+  memory = tables_then t t₁ t₂ a.memory b.memory;
   span_meta = b.span_meta ∙ a.span_meta;
   segment_meta = b.segment_meta ∙ a.segment_meta;
   segment_metrics = b.segment_metrics ∙ a.segment_metrics;
@@ -96,7 +108,7 @@ only_then Metric t t₁ t₂ a b = record {
 
 -- ---- a pair where strings lie beside the parts, and stay
 
-module _ {T : Type 0} (bytes : T → Text) (id : ℕ) (w : Writing) (t n : Tables T) (a : Result (Unit {0}) ChangeBufferError) where
+module _ {T : Type 0} (bytes : T → Text) (id : ℕ) (w : Writing) (t n : FlushTables T) (a : Result (Unit {0}) ChangeBufferError) where
   pub beside_strings : (r : ℕ) (k : PairKind) → PairOnly k t n → OnSpanHeld bytes id r w (with_pairs k t) (with_pairs k n) a
       → OnSpanHeld bytes id r w (λ m. with_strings t.strings.now (with_pairs k t m)) (λ m. with_strings n.strings.now (with_pairs k n m)) a
   beside_strings r Meta only d = λ m o own. rw only.strings (d (with_strings t.strings.now m) o own)

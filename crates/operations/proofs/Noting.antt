@@ -18,11 +18,11 @@ use Rattle.book.specs.Actions.{fault, went, stopped, ◌>>=◌, give, look, ask,
 use Rattle.book.specs.Flush.{write_found, write_segment}
 use Rattle.book.proofs.Boths.{both-left-none}
 use Rattle.tables.specs.declared.segment.Segment.{Segment}
-use Rattle.tables.specs.declared.tables.Tables.{Tables}
 use Rattle.tables.specs.Store.{Store, store, Rowed, chained, segment_at, free}
 use Rattle.tables.specs.InOrder.{InOrder}
 use Rattle.tables.specs.Shows.{text_pair, number_pair, LikeSegment, Shows}
 use Rattle.operations.specs.Inserts.{one_longer, Inserts}
+use Rattle.operations.specs.declared.inner.flush_tables.FlushTables.{FlushTables}
 use Rattle.operations.specs.declared.values.PairKind.{PairKind}
 use Rattle.operations.specs.declared.values.PairKind.TheVariants.{Meta, Metric}
 use Rattle.operations.specs.Parts.{with_segment_pairs, with_seats}
@@ -204,7 +204,7 @@ module _ {T : Type 0} (m : Store T) (o : InOrder m) (id g : ℕ) (own : at m.sea
 
 -- ---- a pair on a segment that is looked up, and stands
 
-pub seated : {T : Type 0} (bytes : T → Text) (id g : ℕ) (w : Writing) (k : PairKind) (t n : Tables T) (ys ys' : List (Segment T)) (es : List Entry) (a : Result (Unit {0}) ChangeBufferError) → at es id ≡ Some g
+pub seated : {T : Type 0} (bytes : T → Text) (id g : ℕ) (w : Writing) (k : PairKind) (t n : FlushTables T) (ys ys' : List (Segment T)) (es : List Entry) (a : Result (Unit {0}) ChangeBufferError) → at es id ≡ Some g
     → OnSeat bytes id g w (with_segment_pairs k t ys) (with_segment_pairs k n ys') a → OnSegmentIfStanding bytes id w (λ m. with_seats es (with_segment_pairs k t ys m)) (λ m. with_seats es (with_segment_pairs k n ys' m)) a
 seated bytes id g w Meta t n ys ys' es a own d = λ m o. d (with_seats es m) o own
 seated bytes id g w Metric t n ys ys' es a own d = λ m o. d (with_seats es m) o own

@@ -11,11 +11,11 @@ use Rattle.book.specs.Actions.{Act}
 use Rattle.book.specs.Acts.{Ending, reached, turned_down, Acts}
 use Rattle.book.specs.Flush.{write_span, write_segment}
 use Rattle.tables.specs.declared.segment.Segment.{Segment}
-use Rattle.tables.specs.declared.tables.Tables.{Tables}
 use Rattle.tables.specs.Store.{Store, free, stands}
 use Rattle.tables.specs.InOrder.{InOrder}
 use Rattle.tables.specs.Shows.{Shows}
 use Rattle.recorder.specs.Answers.{refusal}
+use Rattle.operations.specs.declared.inner.flush_tables.FlushTables.{FlushTables}
 use Rattle.operations.specs.declared.values.PairKind.{PairKind}
 use Rattle.operations.specs.Parts.{HasSegmentRow}
 
@@ -95,5 +95,5 @@ abbrev pub HeldWithin : List Entry → ℕ → Type 0
 HeldWithin es n = (id r : ℕ) → at es id ≡ Some r → r < n
 
 -- every id of a segment is held for one of the records, and its row for pairs of this kind is there
-abbrev pub SegmentRows : {T : Type 0} → PairKind → Tables T → List (Segment T) → List Entry → Type 0
+abbrev pub SegmentRows : {T : Type 0} → PairKind → FlushTables T → List (Segment T) → List Entry → Type 0
 SegmentRows kind t ys es = (id r : ℕ) → at es id ≡ Some r → HasSegmentRow kind t ys r

@@ -16,16 +16,16 @@ use index::Index;
 use interpret::creation::{Creation, Extra, read_creation};
 use layout::buffer::ChangeBuffer;
 use operations::inner::create::create;
+use operations::inner::flush_tables::FlushTables;
 use refusals::Result;
 use tables::segment::Segment;
 use tables::settings::Settings;
-use tables::tables::Tables;
 use texts::Text;
 
 pub fn create_span<T: Text, S: Index, G: Index>(
     buffer: &ChangeBuffer,
     index: &mut usize,
-    tables: &mut Tables<'_, T>,
+    tables: &mut FlushTables<'_, T>,
     segments: &mut [Segment<T>],
     settings: &mut Settings<T>,
     by_id: &mut S,
@@ -37,7 +37,7 @@ pub fn create_span<T: Text, S: Index, G: Index>(
     ensures played { MakesOne T.bytes id (perform (creates (fields_of extra)) id) (held buffer.now) (λ m. with_strings tables.old.strings.now (create_parts tables.old segments.old settings.old (S.content by_id.old) (G.content by_segment.old) m)) (λ m. with_strings tables.new.strings.now (create_parts tables.new segments.new settings.new (S.content by_id.new) (G.content by_segment.new) m)) index.old index.new result }
     ensures only { TextsOnly tables.old tables.new }
 {
-    let Creation { segment, making } = read_creation(buffer, index, tables.strings(), extra)?;
+    let Creation { segment, making } = read_creation(buffer, index, tables.strings, extra)?;
     create(
         tables, segments, settings, by_id, by_segment, id, segment, making,
     )

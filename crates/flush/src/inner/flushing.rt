@@ -8,8 +8,7 @@ ghost use Rattle.layout.specs.Reads.{held};
 ghost use Rattle.book.specs.Actions.{times};
 ghost use Rattle.book.specs.Flush.{perform as performs, operation as one-operation, operations as all-operations};
 ghost use Rattle.tables.specs.InOrder.{InOrder};
-ghost use Rattle.tables.specs.Lent.{passed};
-ghost use Rattle.operations.specs.Parts.{SharedStay};
+ghost use Rattle.operations.specs.Parts.{SharedKept, lent};
 ghost use Rattle.interpret.specs.Played.{Played};
 ghost use Rattle.book.specs.Flush.{buffer_after};
 ghost use Rattle.recorder.specs.Answers.{answer};
@@ -26,10 +25,10 @@ use index::Index;
 use index::entry::Entry;
 use layout::buffer::{ChangeBuffer, clear_count};
 use layout::operation::BufferedOperation;
+use operations::inner::flush_tables::FlushTables;
 use refusals::Result;
 use tables::segment::Segment;
 use tables::settings::Settings;
-use tables::tables::Tables;
 use texts::Text;
 
 // A create looks at the tables after its last operand; every other operation finds its live span before the first. (The
@@ -39,7 +38,7 @@ fn perform<T: Text, S: Index, G: Index>(
     buffer: &ChangeBuffer,
     index: &mut usize,
     last: &mut Option<Entry>,
-    tables: &mut Tables<'_, T>,
+    tables: &mut FlushTables<'_, T>,
     segments: &mut [Segment<T>],
     settings: &mut Settings<T>,
     by_id: &mut S,
@@ -47,10 +46,10 @@ fn perform<T: Text, S: Index, G: Index>(
     id: u64,
     operation: Operation,
 ) -> Result<()>
-    requires order { InOrder (passed tables.old segments.old settings.old (S.content by_id.old) (G.content by_segment.old)) }
+    requires order { InOrder (lent tables.old segments.old settings.old (S.content by_id.old) (G.content by_segment.old)) }
     requires cached { Cached (S.content by_id.old).held last.old }
-    ensures played { Played T.bytes (performs (meaning operation) id) (made_by operation id) (held buffer.now) (passed tables.old segments.old settings.old (S.content by_id.old) (G.content by_segment.old)) (passed tables.new segments.new settings.new (S.content by_id.new) (G.content by_segment.new)) index.old index.new result }
-    ensures shared { SharedStay tables.old tables.new }
+    ensures played { Played T.bytes (performs (meaning operation) id) (made_by operation id) (held buffer.now) (lent tables.old segments.old settings.old (S.content by_id.old) (G.content by_segment.old)) (lent tables.new segments.new settings.new (S.content by_id.new) (G.content by_segment.new)) index.old index.new result }
+    ensures shared { SharedKept tables.old tables.new }
     ensures cached { Cached (S.content by_id.new).held last.new }
 {
     match operation {
@@ -73,16 +72,16 @@ fn operate<T: Text, S: Index, G: Index>(
     buffer: &ChangeBuffer,
     index: &mut usize,
     last: &mut Option<Entry>,
-    tables: &mut Tables<'_, T>,
+    tables: &mut FlushTables<'_, T>,
     segments: &mut [Segment<T>],
     settings: &mut Settings<T>,
     by_id: &mut S,
     by_segment: &mut G,
 ) -> Result<()>
-    requires order { InOrder (passed tables.old segments.old settings.old (S.content by_id.old) (G.content by_segment.old)) }
+    requires order { InOrder (lent tables.old segments.old settings.old (S.content by_id.old) (G.content by_segment.old)) }
     requires cached { Cached (S.content by_id.old).held last.old }
-    ensures played { Played T.bytes one-operation (Created (held buffer.now)) (held buffer.now) (passed tables.old segments.old settings.old (S.content by_id.old) (G.content by_segment.old)) (passed tables.new segments.new settings.new (S.content by_id.new) (G.content by_segment.new)) index.old index.new result }
-    ensures shared { SharedStay tables.old tables.new }
+    ensures played { Played T.bytes one-operation (Created (held buffer.now)) (held buffer.now) (lent tables.old segments.old settings.old (S.content by_id.old) (G.content by_segment.old)) (lent tables.new segments.new settings.new (S.content by_id.new) (G.content by_segment.new)) index.old index.new result }
+    ensures shared { SharedKept tables.old tables.new }
     ensures cached { Cached (S.content by_id.new).held last.new }
 {
     let head = BufferedOperation::from_buf(buffer, index)?;
@@ -104,16 +103,16 @@ fn operate<T: Text, S: Index, G: Index>(
 fn operate_times<T: Text, S: Index, G: Index>(
     buffer: &ChangeBuffer,
     index: &mut usize,
-    tables: &mut Tables<'_, T>,
+    tables: &mut FlushTables<'_, T>,
     segments: &mut [Segment<T>],
     settings: &mut Settings<T>,
     by_id: &mut S,
     by_segment: &mut G,
     count: u32,
 ) -> Result<()>
-    requires order { InOrder (passed tables.old segments.old settings.old (S.content by_id.old) (G.content by_segment.old)) }
-    ensures played { Played T.bytes (times count one-operation) (Created (held buffer.now)) (held buffer.now) (passed tables.old segments.old settings.old (S.content by_id.old) (G.content by_segment.old)) (passed tables.new segments.new settings.new (S.content by_id.new) (G.content by_segment.new)) index.old index.new result }
-    ensures shared { SharedStay tables.old tables.new }
+    requires order { InOrder (lent tables.old segments.old settings.old (S.content by_id.old) (G.content by_segment.old)) }
+    ensures played { Played T.bytes (times count one-operation) (Created (held buffer.now)) (held buffer.now) (lent tables.old segments.old settings.old (S.content by_id.old) (G.content by_segment.old)) (lent tables.new segments.new settings.new (S.content by_id.new) (G.content by_segment.new)) index.old index.new result }
+    ensures shared { SharedKept tables.old tables.new }
 {
     let mut last = None;
     for _ in 0..count {
@@ -128,15 +127,15 @@ fn operate_times<T: Text, S: Index, G: Index>(
 pub fn flush<T: Text, S: Index, G: Index>(
     buffer: &ChangeBuffer,
     index: &mut usize,
-    tables: &mut Tables<'_, T>,
+    tables: &mut FlushTables<'_, T>,
     segments: &mut [Segment<T>],
     settings: &mut Settings<T>,
     by_id: &mut S,
     by_segment: &mut G,
 ) -> Result<()>
-    requires order { InOrder (passed tables.old segments.old settings.old (S.content by_id.old) (G.content by_segment.old)) }
-    ensures played { Played T.bytes all-operations (Created (held buffer.now)) (held buffer.now) (passed tables.old segments.old settings.old (S.content by_id.old) (G.content by_segment.old)) (passed tables.new segments.new settings.new (S.content by_id.new) (G.content by_segment.new)) index.old index.new result }
-    ensures shared { SharedStay tables.old tables.new }
+    requires order { InOrder (lent tables.old segments.old settings.old (S.content by_id.old) (G.content by_segment.old)) }
+    ensures played { Played T.bytes all-operations (Created (held buffer.now)) (held buffer.now) (lent tables.old segments.old settings.old (S.content by_id.old) (G.content by_segment.old)) (lent tables.new segments.new settings.new (S.content by_id.new) (G.content by_segment.new)) index.old index.new result }
+    ensures shared { SharedKept tables.old tables.new }
     ensures bound { OnOk result (index.old + 8 ≤ length (held buffer.now)) }
 {
     let count: u64 = buffer.read(index)?;
@@ -156,16 +155,16 @@ pub fn flush<T: Text, S: Index, G: Index>(
 // The flush of a buffer's bytes, whose count is zero afterwards if all of it was accepted.
 pub fn flush_bytes<T: Text, S: Index, G: Index>(
     bytes: &mut [u8],
-    tables: &mut Tables<'_, T>,
+    tables: &mut FlushTables<'_, T>,
     segments: &mut [Segment<T>],
     settings: &mut Settings<T>,
     by_id: &mut S,
     by_segment: &mut G,
 ) -> Result<()>
-    requires order { InOrder (passed tables.old segments.old settings.old (S.content by_id.old) (G.content by_segment.old)) }
-    ensures flushes { Flushes T.bytes bytes.old (passed tables.old segments.old settings.old (S.content by_id.old) (G.content by_segment.old)) (passed tables.new segments.new settings.new (S.content by_id.new) (G.content by_segment.new)) (answer result) }
+    requires order { InOrder (lent tables.old segments.old settings.old (S.content by_id.old) (G.content by_segment.old)) }
+    ensures flushes { Flushes T.bytes bytes.old (lent tables.old segments.old settings.old (S.content by_id.old) (G.content by_segment.old)) (lent tables.new segments.new settings.new (S.content by_id.new) (G.content by_segment.new)) (answer result) }
     ensures after { bytes.new ≡ buffer_after (answer result) bytes.old }
-    ensures shared { SharedStay tables.old tables.new }
+    ensures shared { SharedKept tables.old tables.new }
 {
     let buffer = ChangeBuffer::new(bytes);
     let mut index = 0;

@@ -14,15 +14,15 @@ use crate::operation::OnSegment;
 use index::Index;
 use interpret::inner::segments::{set_trace_origin, set_trace_pair};
 use layout::buffer::ChangeBuffer;
+use operations::inner::flush_tables::FlushTables;
 use refusals::Result;
 use tables::segment::Segment;
-use tables::tables::Tables;
 use texts::Text;
 
 pub fn on_segment<T: Text, G: Index>(
     buffer: &ChangeBuffer,
     index: &mut usize,
-    tables: &mut Tables<'_, T>,
+    tables: &mut FlushTables<'_, T>,
     segments: &mut [Segment<T>],
     by_segment: &G,
     segment: u64,
@@ -39,7 +39,7 @@ pub fn on_segment<T: Text, G: Index>(
         OnSegment::Origin => set_trace_origin(
             buffer,
             index,
-            tables.strings(),
+            tables.strings,
             segments,
             by_segment,
             segment,

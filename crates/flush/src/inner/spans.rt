@@ -14,14 +14,14 @@ use index::entry::Entry;
 use interpret::inner::batches::batch_set_pairs;
 use interpret::inner::spans::{set_pair, set_span_field};
 use layout::buffer::ChangeBuffer;
+use operations::inner::flush_tables::FlushTables;
 use refusals::Result;
-use tables::tables::Tables;
 use texts::Text;
 
 pub fn on_span<T: Text>(
     buffer: &ChangeBuffer,
     index: &mut usize,
-    tables: &mut Tables<'_, T>,
+    tables: &mut FlushTables<'_, T>,
     found: Entry,
     operation: OnSpan,
 ) -> Result<()>

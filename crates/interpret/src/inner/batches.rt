@@ -13,15 +13,15 @@ ghost use Rattle.interpret.specs.Played.{OnLive, set_counted};
 use crate::inner::spans::set_pair;
 use index::entry::Entry;
 use layout::buffer::ChangeBuffer;
+use operations::inner::flush_tables::FlushTables;
 use operations::values::PairKind;
 use refusals::Result;
-use tables::tables::Tables;
 use texts::Text;
 
 pub fn batch_set_pairs<T: Text>(
     buffer: &ChangeBuffer,
     index: &mut usize,
-    tables: &mut Tables<'_, T>,
+    tables: &mut FlushTables<'_, T>,
     found: Entry,
     kind: PairKind,
 ) -> Result<()>
@@ -37,7 +37,7 @@ pub fn batch_set_pairs<T: Text>(
 fn set_pairs<T: Text>(
     buffer: &ChangeBuffer,
     index: &mut usize,
-    tables: &mut Tables<'_, T>,
+    tables: &mut FlushTables<'_, T>,
     found: Entry,
     kind: PairKind,
     count: u32,

@@ -12,17 +12,17 @@ ghost use Rattle.interpret.specs.Played.{note_attribute, OnAny};
 use crate::operands::read_pair;
 use index::Index;
 use layout::buffer::ChangeBuffer;
+use operations::inner::flush_tables::FlushTables;
 use operations::inner::segments::{add_segment_pair, set_origin};
 use operations::values::PairKind;
 use refusals::Result;
 use tables::segment::Segment;
-use tables::tables::Tables;
 use texts::Text;
 
 pub fn set_trace_pair<T: Text, G: Index>(
     buffer: &ChangeBuffer,
     index: &mut usize,
-    tables: &mut Tables<'_, T>,
+    tables: &mut FlushTables<'_, T>,
     segments: &mut [Segment<T>],
     by_segment: &G,
     segment: u64,
@@ -32,7 +32,7 @@ pub fn set_trace_pair<T: Text, G: Index>(
     ensures played { OnAny T.bytes (note_attribute (pair_attribute kind) segment) (held buffer.now) (λ m. with_strings tables.old.strings.now (with_seats (G.content by_segment.now).held (with_segment_pairs kind tables.old segments.old m))) (λ m. with_strings tables.new.strings.now (with_seats (G.content by_segment.now).held (with_segment_pairs kind tables.new segments.new m))) index.old index.new result }
     ensures only { SegmentPairOnly kind tables.old tables.new }
 {
-    let pair = read_pair(buffer, index, tables.strings(), kind)?;
+    let pair = read_pair(buffer, index, tables.strings, kind)?;
     add_segment_pair(tables, segments, by_segment, segment, pair)
 }
 

@@ -14,10 +14,10 @@ use crate::operands::{read_field, read_pair};
 use index::entry::Entry;
 use layout::buffer::ChangeBuffer;
 use operations::inner::fields::set_field;
+use operations::inner::flush_tables::FlushTables;
 use operations::inner::pairs::add_pair;
 use operations::values::PairKind;
 use refusals::Result;
-use tables::tables::Tables;
 use texts::Text;
 
 // Inlined, for the sake of batches.
@@ -25,7 +25,7 @@ use texts::Text;
 pub fn set_pair<T: Text>(
     buffer: &ChangeBuffer,
     index: &mut usize,
-    tables: &mut Tables<'_, T>,
+    tables: &mut FlushTables<'_, T>,
     found: Entry,
     kind: PairKind,
 ) -> Result<()>
@@ -34,14 +34,14 @@ pub fn set_pair<T: Text>(
     ensures only { PairOnly kind tables.old tables.new }
     ensures row { HasRow kind tables.new found.number }
 {
-    let pair = read_pair(buffer, index, tables.strings(), kind)?;
+    let pair = read_pair(buffer, index, tables.strings, kind)?;
     add_pair(tables, found, pair)
 }
 
 pub fn set_span_field<T: Text>(
     buffer: &ChangeBuffer,
     index: &mut usize,
-    tables: &mut Tables<'_, T>,
+    tables: &mut FlushTables<'_, T>,
     found: Entry,
     name: FieldName,
 ) -> Result<()>
@@ -49,7 +49,7 @@ pub fn set_span_field<T: Text>(
     ensures played { OnLive T.bytes found.id found.number (set_attribute (attribute_of name) found.id) (held buffer.now) (λ m. with_strings tables.old.strings.now (with_spans tables.old.spans.now m)) (λ m. with_strings tables.new.strings.now (with_spans tables.new.spans.now m)) index.old index.new result }
     ensures only { FieldsOnly tables.old tables.new }
 {
-    let field = read_field(buffer, index, tables.strings(), name)?;
+    let field = read_field(buffer, index, tables.strings, name)?;
     set_field(tables.spans, found, field);
     Ok(())
 }

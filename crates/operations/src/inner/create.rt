@@ -11,6 +11,7 @@ ghost use Rattle.operations.specs.declared.values.PairKind.TheVariants.{Meta};
 ghost use Rattle.operations.specs.Parts.{HasRow, TextsOnly, create_parts};
 ghost use Rattle.operations.specs.Made.{SameSettings, made_span, new_segment, Roomy, Puts, RecordFor, CanGrow, Makes, Enters, Creates};
 
+use crate::inner::flush_tables::FlushTables;
 use crate::inner::places::{Place, seat_for, span_for};
 use crate::values::Making;
 use index::Index;
@@ -19,7 +20,6 @@ use refusals::Result;
 use tables::segment::Segment;
 use tables::settings::Settings;
 use tables::span::{Mark, Span, TEXT_ROW};
-use tables::tables::Tables;
 use texts::Text;
 use vec_map::head::Head;
 
@@ -31,22 +31,20 @@ fn fill_row<T: Text>(row: &mut [(T, T)], pairs: &[(T, T)])
     row[..pairs.len()].copy_from_slice(pairs);
 }
 
-// The default pairs into the text row of a span; every other row stays as it is. They are lent by `&mut`, since the check
-// does not yet lend pairs that lie in a field of a `&mut Tables` by `&`. (The row is there, so its start is not tested, as
-// `vec_map` does where it may not be.)
+// The default pairs into the text row of a span; every other row stays as it is. (The row is there, so its start is not
+// tested, as `vec_map` does where it may not be.)
 fn fill_defaults<T: Text>(
     span_meta: &mut [(T, T)],
     number: usize,
-    defaults: &mut [(T, T)],
+    defaults: &[(T, T)],
     count: usize,
 )
     requires place { number * span_text_row + span_text_row ≤ length span_meta.old }
-    requires within { count ≤ length defaults.old }
+    requires within { count ≤ length defaults.now }
     requires bound { count ≤ most_defaults }
-    ensures items { take count (row span_text_row number span_meta.new) ≡ take count defaults.old }
+    ensures items { take count (row span_text_row number span_meta.new) ≡ take count defaults.now }
     ensures others { OthersStay span_text_row number span_meta.old span_meta.new }
     ensures long { length span_meta.new ≡ length span_meta.old }
-    ensures same { defaults.new ≡ defaults.old }
 {
     let from = number * TEXT_ROW;
     fill_row(&mut span_meta[from..from + TEXT_ROW], &defaults[..count]);
@@ -103,7 +101,7 @@ fn put_place<I: Index>(index: &mut I, place: Entry)
 
 // The span with its default pairs, in the record with this number.
 fn make_span<T: Text, S: Index>(
-    tables: &mut Tables<'_, T>,
+    tables: &mut FlushTables<'_, T>,
     settings: &mut Settings<T>,
     by_id: &mut S,
     place: Entry,
@@ -165,7 +163,7 @@ fn enter_segment<T: Text, G: Index>(segments: &mut [Segment<T>], by_segment: &mu
 // A span is made in its own record, or a free one, and its segment is made if it is absent. Refused (11, 12) where one
 // of them finds no record, or the segment's count cannot grow. (The segment's id goes beside what is made: it is not the span's.)
 pub fn create<T: Text, S: Index, G: Index>(
-    tables: &mut Tables<'_, T>,
+    tables: &mut FlushTables<'_, T>,
     segments: &mut [Segment<T>],
     settings: &mut Settings<T>,
     by_id: &mut S,
@@ -178,7 +176,7 @@ pub fn create<T: Text, S: Index, G: Index>(
     ensures done { Creates T.bytes id segment making (create_parts tables.old segments.old settings.old (S.content by_id.old) (G.content by_segment.old)) (create_parts tables.new segments.new settings.new (S.content by_id.new) (G.content by_segment.new)) result }
     ensures only { TextsOnly tables.old tables.new }
 {
-    let place = span_for(tables, by_id, id, settings.next_free)?;
+    let place = span_for(tables.spans(), by_id, id, settings.next_free)?;
     let seat = seat_for(segments, by_segment, segment)?;
     make_span(tables, settings, by_id, place, segment, making);
     enter_segment(segments, by_segment, seat);

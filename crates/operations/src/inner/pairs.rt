@@ -4,17 +4,17 @@ ghost use Rattle.operations.specs.Done.{OnSpanHeld};
 ghost use Rattle.operations.specs.Fields.{kind_of, pair_written};
 ghost use Rattle.operations.specs.Parts.{HasRow, PairOnly, with_pairs};
 
+use crate::inner::flush_tables::FlushTables;
 use crate::inner::rows::insert_below;
 use crate::values::Pair;
 use index::entry::Entry;
 use refusals::{ChangeBufferError, Result};
 use tables::span::{NUMBER_LIMIT, NUMBER_ROW, TEXT_LIMIT, TEXT_ROW};
-use tables::tables::Tables;
 use texts::Text;
 
 // A pair on the live span that was found. Refused (13) where its row has no place for one more. (Two arms: tables, widths,
 // limits and heads differ, here and on segments, and a trait that gives all four for each would be no plainer.)
-pub fn add_pair<T: Text>(tables: &mut Tables<'_, T>, found: Entry, pair: Pair<T>) -> Result<()>
+pub fn add_pair<T: Text>(tables: &mut FlushTables<'_, T>, found: Entry, pair: Pair<T>) -> Result<()>
     requires row { HasRow (kind_of pair) tables.old found.number }
     ensures done { OnSpanHeld T.bytes found.id found.number (pair_written T.bytes pair) (with_pairs (kind_of pair) tables.old) (with_pairs (kind_of pair) tables.new) result }
     ensures row { HasRow (kind_of pair) tables.new found.number }

@@ -10,7 +10,6 @@ use index::entry::Entry;
 use refusals::{ChangeBufferError, Result};
 use tables::segment::Segment;
 use tables::span::{Mark, Span};
-use tables::tables::Tables;
 use texts::Text;
 
 // A record that may be in no use.
@@ -74,14 +73,14 @@ pub fn record_for<R: Place, I: Index>(
 
 // The place of a span: its own, else a free one. Refused (11) where it has none and no record is free.
 pub fn span_for<T: Text, S: Index>(
-    tables: &Tables<'_, T>,
+    spans: &[Span<T>],
     by_id: &S,
     id: u64,
     hint: usize,
 ) -> Result<Entry>
-    ensures { SpanPlace (S.content by_id.now).held tables.now.spans.now id result }
+    ensures { SpanPlace (S.content by_id.now).held spans.now id result }
 {
-    let number = record_for(tables.spans, by_id, id, hint).ok_or(ChangeBufferError::NoRecord(id))?;
+    let number = record_for(spans, by_id, id, hint).ok_or(ChangeBufferError::NoRecord(id))?;
     Ok(Entry { id, number })
 }
 

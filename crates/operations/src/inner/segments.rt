@@ -6,18 +6,18 @@ ghost use Rattle.operations.specs.Done.{OnSeat, OnSegmentIfStanding, HeldWithin,
 ghost use Rattle.operations.specs.Fields.{kind_of, pair_written};
 ghost use Rattle.operations.specs.Parts.{HasSegmentRow, SegmentPairOnly, with_segments, with_segment_pairs, with_seats};
 
+use crate::inner::flush_tables::FlushTables;
 use crate::inner::rows::insert_below;
 use crate::values::Pair;
 use index::Index;
 use index::entry::Entry;
 use refusals::{ChangeBufferError, Result};
 use tables::segment::{NUMBER_ROW, Segment, TEXT_ROW};
-use tables::tables::Tables;
 use texts::Text;
 
 // A pair on the segment with this id. Refused (13) where its row has no place for one more.
 pub fn add_segment_pair<T: Text, G: Index>(
-    tables: &mut Tables<'_, T>,
+    tables: &mut FlushTables<'_, T>,
     segments: &mut [Segment<T>],
     by_segment: &G,
     id: u64,
@@ -35,7 +35,7 @@ pub fn add_segment_pair<T: Text, G: Index>(
 
 // (Two arms, as on spans.)
 fn pair_at<T: Text>(
-    tables: &mut Tables<'_, T>,
+    tables: &mut FlushTables<'_, T>,
     segments: &mut [Segment<T>],
     found: Entry,
     pair: Pair<T>,

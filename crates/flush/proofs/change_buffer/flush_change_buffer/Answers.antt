@@ -1,9 +1,9 @@
 use Rattle.std.proofs.Common.{refl}
 use Rattle.std.proofs.lemmas.Result.{err_from_is_err_and}
 use Rattle.book.specs.Calls.{change_buffer}
+use Rattle.tables.proofs.Memory.{memory_kept}
 use Rattle.recorder.proofs.Performing.{turned-away}
 use Rattle.operations.proofs.Keeping.{records-same}
-use Rattle.flush.proofs.Operating.{shared_start}
 use Rattle.flush.proofs.change_buffer.flush_change_buffer.Goals as goal
 
 pub returns-in_err-check_order : goal.returns-in_err-check_order
@@ -18,20 +18,16 @@ returns-in_err-check_order g c =
         segments = records-same _ _ _ _ _ _;
       };
       after = refl;
-      shared = shared_start _;
+      shared = record { memory = memory_kept _; strings = refl; defaults = refl };
     })
 
-pub returns : goal.returns
-returns g c = record {
+pub returns-clause-call : goal.returns-clause-call
+returns-clause-call g c = record {
   call = record {
-    call = record {
-      untouched = λ n. absurd (n c.in_ok-check_order.ensures);
-      shows = c.flush_bytes.ensures.flushes.shows;
-    };
-    order = λ o. c.flush_bytes.ensures.flushes.order;
-    spans = c.flush_bytes.ensures.flushes.spans_kept;
-    segments = c.flush_bytes.ensures.flushes.segments_kept;
+    untouched = λ n. absurd (n c.in_ok-check_order.ensures);
+    shows = c.flush_lent.ensures.flushes.shows;
   };
-  after = c.flush_bytes.ensures.after;
-  shared = c.flush_bytes.ensures.shared;
+  order = λ o. c.flush_lent.ensures.flushes.order;
+  spans = c.flush_lent.ensures.flushes.spans_kept;
+  segments = c.flush_lent.ensures.flushes.segments_kept;
 }

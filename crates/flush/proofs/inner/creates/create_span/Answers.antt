@@ -5,7 +5,7 @@ use Rattle.book.specs.Flush.{make}
 use Rattle.recorder.specs.Strings.{with_strings}
 use Rattle.operations.specs.Parts.{create_parts}
 use Rattle.interpret.specs.Creation.{fields_of, read_create}
-use Rattle.interpret.proofs.Playing.{by_strings, unread, read_done}
+use Rattle.interpret.proofs.Playing.{unread, read_done}
 use Rattle.interpret.proofs.Creations.{gives}
 use Rattle.flush.proofs.Performing.{as_create}
 use Rattle.flush.proofs.inner.creates.create_span.Goals as goal
@@ -16,12 +16,12 @@ returns-in_err-segment-clause-played g c =
     rw (p.1, p.2) (λ m o.
     as_create g.T.Text.bytes (held c.args.buffer.now) (fields_of c.args.extra) c.args.id (λ q. q ≡ c.args.id) _ _ c.args.index.now c.read_creation.new.index _
     (unread g.T.Text.bytes (held c.args.buffer.now) _ c.args.index.now (λ q. q ≡ c.args.id) (read_create (fields_of c.args.extra)) (λ x. make c.args.id x.0 x.1) c.read_creation.new.index c.in_err-segment.field-0.0 o
-    (by_strings g.T.Text.bytes _ (held c.args.buffer.now) c.args.index.now _ (create_parts c.args.tables.now c.args.segments.now c.args.settings.now (g.S.Index.content c.args.by_id.now) (g.G.Index.content c.args.by_segment.now) m) c.strings.ensures (c.in_err-segment.ensures.reads (create_parts c.args.tables.now c.args.segments.now c.args.settings.now (g.S.Index.content c.args.by_id.now) (g.G.Index.content c.args.by_segment.now) m)))))
+    (c.in_err-segment.ensures.reads (create_parts c.args.tables.now c.args.segments.now c.args.settings.now (g.S.Index.content c.args.by_id.now) (g.G.Index.content c.args.by_segment.now) m))))
 
 pub returns-clause-played : goal.returns-clause-played
 returns-clause-played g c = λ m o.
     rw c.create.ensures.only.strings
     (as_create g.T.Text.bytes (held c.args.buffer.now) (fields_of c.args.extra) c.args.id (λ q. q ≡ c.args.id) _ _ c.args.index.now c.read_creation.new.index _
     (read_done g.T.Text.bytes (held c.args.buffer.now) _ c.args.index.now (λ q. q ≡ c.args.id) (read_create (fields_of c.args.extra)) (λ x. make c.args.id x.0 x.1) _ c.read_creation.new.index _ _
-    (by_strings g.T.Text.bytes _ (held c.args.buffer.now) c.args.index.now _ (create_parts c.args.tables.now c.args.segments.now c.args.settings.now (g.S.Index.content c.args.by_id.now) (g.G.Index.content c.args.by_segment.now) m) c.strings.ensures (c.in_ok-segment.ensures.reads (create_parts c.args.tables.now c.args.segments.now c.args.settings.now (g.S.Index.content c.args.by_id.now) (g.G.Index.content c.args.by_segment.now) m)))
+    (c.in_ok-segment.ensures.reads (create_parts c.args.tables.now c.args.segments.now c.args.settings.now (g.S.Index.content c.args.by_id.now) (g.G.Index.content c.args.by_segment.now) m))
     (c.create.ensures.done (with_strings c.args.tables.now.strings.now m) _ o (gives g.T.Text.bytes _ c.args.extra c.in_ok-segment.ensures.blank))))

@@ -2,8 +2,7 @@ use Rattle.std.proofs.Common.{Ok}
 use Rattle.layout.specs.Reads.{held}
 use Rattle.book.specs.Actions.{times}
 use Rattle.book.specs.Flush.{operation}
-use Rattle.tables.specs.Lent.{passed}
-use Rattle.operations.specs.Parts.{SharedStay}
+use Rattle.operations.specs.Parts.{SharedKept, lent}
 use Rattle.interpret.specs.Played.{Played}
 use Rattle.flush.specs.Found.{Cached}
 use Rattle.flush.specs.Operation.{Created}
@@ -12,8 +11,8 @@ use Rattle.flush.proofs.inner.flushing.operate_times.Given as goal
 abbrev pub invariant-loop : goal.invariant-loop
 invariant-loop g l = record {
   cached : Cached (g.S.Index.content l.by_id).held l.last;
-  shared : SharedStay l.initial.tables l.tables;
+  shared : SharedKept l.initial.tables l.tables;
   played : Played g.T.Text.bytes (times l.counter operation) (Created (held l.buffer)) (held l.buffer)
-      (passed l.initial.tables l.initial.segments l.initial.settings (g.S.Index.content l.initial.by_id) (g.G.Index.content l.initial.by_segment))
-      (passed l.tables l.segments l.settings (g.S.Index.content l.by_id) (g.G.Index.content l.by_segment)) l.initial.index l.index (Ok tt);
+      (lent l.initial.tables l.initial.segments l.initial.settings (g.S.Index.content l.initial.by_id) (g.G.Index.content l.initial.by_segment))
+      (lent l.tables l.segments l.settings (g.S.Index.content l.by_id) (g.G.Index.content l.by_segment)) l.initial.index l.index (Ok tt);
 }

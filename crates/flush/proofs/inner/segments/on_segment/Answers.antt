@@ -1,10 +1,8 @@
-use Rattle.std.proofs.Common.{subst}
 use Rattle.layout.specs.Reads.{held}
-use Rattle.recorder.specs.Strings.{with_strings}
 use Rattle.operations.specs.declared.values.PairKind.TheVariants.{Meta}
-use Rattle.operations.specs.Parts.{with_seats, with_segment_meta, with_segment_metrics, with_segment_rows}
-use Rattle.interpret.specs.Attributes.{origin_attribute, pair_attribute}
-use Rattle.interpret.specs.Played.{note_attribute, OnAny}
+use Rattle.operations.specs.Parts.{with_segment_meta, with_segment_metrics}
+use Rattle.interpret.specs.Attributes.{pair_attribute}
+use Rattle.interpret.specs.Played.{note_attribute}
 use Rattle.flush.proofs.Performing.{segment_pair_only, segment_pair_rows}
 use Rattle.flush.proofs.inner.segments.on_segment.Goals as goal
 
@@ -15,11 +13,8 @@ returns-in-Pair-clause-played g c = rw c.in-Pair.is
 
 pub returns-in-Origin-clause-played : goal.returns-in-Origin-clause-played
 returns-in-Origin-clause-played g c =
-    let es = (g.G.Index.content c.args.by_segment.now).held in
     let t = c.args.tables.now in
-    rw c.in-Origin.is
-    (subst (λ ss. OnAny g.T.Text.bytes (note_attribute origin_attribute c.args.segment) (held c.args.buffer.now) (λ m. with_strings ss (with_seats es (with_segment_rows t c.args.segments.now m))) (λ m. with_strings ss (with_seats es (with_segment_rows t c.set_trace_origin.new.segments m))) c.args.index.now c.set_trace_origin.new.index c.set_trace_origin.result)
-    c.strings.ensures (λ m. c.set_trace_origin.ensures.played (with_segment_metrics t.segment_metrics.now (with_segment_meta t.segment_meta.now m))))
+    rw c.in-Origin.is (λ m. c.set_trace_origin.ensures.played (with_segment_metrics t.segment_metrics.now (with_segment_meta t.segment_meta.now m)))
 
 pub set_trace_pair-requires : goal.set_trace_pair-requires
 set_trace_pair-requires g c = record { rows = c.requires.rows c.in-Pair.kind }

@@ -6,7 +6,7 @@ use Rattle.operations.specs.Fields.{kind_of, pair_written}
 use Rattle.operations.specs.Done.{OnSegmentIfStanding, SegmentRows}
 use Rattle.operations.specs.Parts.{SegmentPairOnly, with_segment_pairs, with_seats}
 use Rattle.interpret.specs.Attributes.{pair_attribute}
-use Rattle.interpret.proofs.Playing.{by_strings, note-unread, note_done}
+use Rattle.interpret.proofs.Playing.{note-unread, note_done}
 use Rattle.interpret.proofs.Following.{segment_only_start, seated_beside_strings}
 use Rattle.interpret.proofs.inner.segments.set_trace_pair.Goals as goal
 
@@ -18,7 +18,7 @@ returns-in_err-pair-clause-played g c =
     let ys = c.args.segments.now in
     rw (p.1, p.2) (λ m o.
     note-unread g.T.Text.bytes (held c.args.buffer.now) _ c.args.index.now (pair_attribute c.args.kind) c.args.segment c.read_pair.new.index c.in_err-pair.field-0.0 o
-    (by_strings g.T.Text.bytes _ (held c.args.buffer.now) c.args.index.now _ (with_seats es (with_segment_pairs c.args.kind t ys m)) c.strings.ensures (c.in_err-pair.ensures.reads (with_seats es (with_segment_pairs c.args.kind t ys m)))))
+    (c.in_err-pair.ensures.reads (with_seats es (with_segment_pairs c.args.kind t ys m))))
 
 pub returns-clause-played : goal.returns-clause-played
 returns-clause-played g c =
@@ -31,7 +31,7 @@ returns-clause-played g c =
     let pair = c.in_ok-pair.pair in
     λ m o.
     note_done b (held c.args.buffer.now) _ c.args.index.now (pair_attribute c.args.kind) c.args.segment _ c.read_pair.new.index _ _
-    (by_strings b _ (held c.args.buffer.now) c.args.index.now _ (with_seats es (with_segment_pairs c.args.kind t ys m)) c.strings.ensures (c.in_ok-pair.ensures.reads (with_seats es (with_segment_pairs c.args.kind t ys m))))
+    (c.in_ok-pair.ensures.reads (with_seats es (with_segment_pairs c.args.kind t ys m)))
     (subst (λ k. OnSegmentIfStanding b c.args.segment (pair_written b pair) (λ m. with_strings t.strings.now (with_seats es (with_segment_pairs k t ys m))) (λ m. with_strings n.strings.now (with_seats es (with_segment_pairs k n ys' m))) c.add_segment_pair.result) c.in_ok-pair.ensures.kind
     (seated_beside_strings b c.args.segment (pair_written b pair) t n c.add_segment_pair.result ys ys' es (kind_of pair) c.add_segment_pair.ensures.only c.add_segment_pair.ensures.done) m o)
 

@@ -1,4 +1,4 @@
-use Rattle.std.proofs.Common.{◌≡◌, ℕ, length, take, refl, ap, ◌∙◌, subst, arith, length-append, length-drop, length-take, length-take-le}
+use Rattle.std.proofs.Common.{◌≡◌, ℕ, length, take, ap, ◌∙◌, subst, arith, length-append, length-drop, length-take, length-take-le}
 use Rattle.book.specs.Limits.{span_text_row}
 use Rattle.vec_map.specs.Tables.{row}
 use Rattle.vec_map.proofs.TableRows.{row_put, row_other, row_same}
@@ -18,5 +18,4 @@ returns g c =
       items = ap (λ zs. take n (row span_text_row r zs)) t ∙ (ap (λ zs. take n zs) (row_same span_text_row r xs ys c.requires.place l) ∙ subst (λ (q : ℕ). take q ys ≡ take n ds) k c.fill_row.ensures);
       others = λ j d. ap (λ zs. row span_text_row j zs) t ∙ row_other span_text_row j r xs ys d c.requires.place l;
       long = ap length t ∙ simp (length-append, length-take, length-drop) (omega (arith, l, c.requires.place));
-      same = refl;
     }
