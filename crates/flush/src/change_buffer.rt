@@ -54,8 +54,8 @@ pub fn flush_change_buffer<T: Text, S: Index, G: Index>(
 }
 
 // The flush of a buffer, on tables in order: its operations are lent strings and default pairs to be read only. (The tables are
-// lent one by one: strings and pairs in a field of a `&mut Tables` can't be lent by `&` yet, and of a slice that is lent on from
-// a variable nothing is known afterwards.)
+// lent one by one: strings and pairs in a field of a `&mut Tables` can't be lent by `&` yet, and of a slice that goes into the
+// struct from a variable nothing is known afterwards.)
 fn flush_lent<T: Text, S: Index, G: Index>(
     spans: &mut [Span<T>],
     span_meta: &mut [(T, T)],
