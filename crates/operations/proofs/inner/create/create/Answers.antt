@@ -1,26 +1,26 @@
-use Rattle.std.proofs.Common.{◌≡◌, ℕ, List, length, sym, subst, arith}
+use Rattle.std.proofs.Common.{◌≡◌, ℕ, List, length, Ok, Err, Result, sym, subst, arith}
 use Rattle.std.proofs.lemmas.Result.{err_from_is_err_and}
 use Rattle.index.specs.declared.entry.Entry.{Entry}
+use Rattle.refusals.specs.declared.ChangeBufferError.{ChangeBufferError}
 use Rattle.book.specs.Limits.{span_text_row}
 use Rattle.tables.specs.declared.span.Span.{Span}
-use Rattle.tables.specs.Store.{free}
 use Rattle.operations.specs.Parts.{create_parts}
 use Rattle.operations.specs.Done.{gone}
-use Rattle.operations.specs.Made.{RecordFor, NoRecordFor, Roomy, Makes, Enters}
+use Rattle.operations.specs.Made.{RecordFor, SpanPlace, Roomy, Makes, Enters}
 use Rattle.operations.proofs.Taking.{ids-within, seats-within}
 use Rattle.operations.proofs.Writing.{rows_within}
 use Rattle.operations.proofs.Creating.{record_within, ids-roomy, seats-roomy, done_no_record, done_no_seat, created}
 use Rattle.operations.proofs.inner.create.create.Goals as goal
 
--- a record found in a slice of the tables' spans is one of theirs
-of_tables : {T : Type 0} (es : List Entry) {seen xs : List (Span T)} → seen ≡ xs → (id r : ℕ) → RecordFor free es seen id r → RecordFor free es xs id r
-of_tables es e id r found = subst (λ ys. RecordFor free es ys id r) e found
+-- a place found in a slice of the tables' spans is one of theirs
+of_tables : {T : Type 0} (es : List Entry) {seen xs : List (Span T)} → seen ≡ xs → (id : ℕ) (place : Result Entry ChangeBufferError) → SpanPlace es seen id place → SpanPlace es xs id place
+of_tables es e id place found = subst (λ ys. SpanPlace es ys id place) e found
 
 pub returns-in_err-place-clause-done : goal.returns-in_err-place-clause-done
 returns-in_err-place-clause-done g c =
     let p = err_from_is_err_and c.from_residual.result c.from_residual.ensures.1 in
     rw (p.1, p.2, c.in_err-place.ensures.0) (λ m ws o gives.
-    done_no_record _ o (g.met.S.Index.once c.args.by_id.now) (g.met.G.Index.once c.args.by_segment.now) g.T.Text.bytes c.args.id c.args.segment ws (subst (λ xs. NoRecordFor free (g.S.Index.content c.args.by_id.now).held xs c.args.id) c.spans.ensures c.in_err-place.ensures.1))
+    done_no_record _ o (g.met.S.Index.once c.args.by_id.now) (g.met.G.Index.once c.args.by_segment.now) g.T.Text.bytes c.args.id c.args.segment ws (of_tables _ c.spans.ensures c.args.id (Err c.in_err-place.field-0.0) c.in_err-place.ensures).1)
 
 pub seat_for-requires : goal.seat_for-requires
 seat_for-requires g c = seats-within _ c.requires.order.1
@@ -30,11 +30,11 @@ returns-in_err-seat-clause-done g c =
     let p = err_from_is_err_and c.from_residual-in_err-seat.result c.from_residual-in_err-seat.ensures.1 in
     rw (p.1, p.2, c.in_err-seat.ensures.0) (λ m ws o gives.
     done_no_seat _ o (g.met.S.Index.once c.args.by_id.now) (g.met.G.Index.once c.args.by_segment.now) g.T.Text.bytes c.args.id c.args.segment ws
-    c.in_ok-place.place.number (of_tables _ c.spans.ensures c.args.id c.in_ok-place.place.number c.in_ok-place.ensures.1) c.in_err-seat.ensures.1)
+    c.in_ok-place.place.number (of_tables _ c.spans.ensures c.args.id (Ok c.in_ok-place.place) c.in_ok-place.ensures).1 c.in_err-seat.ensures.1)
 
 pub make_span-requires-clause-row : goal.make_span-requires-clause-row
 make_span-requires-clause-row g c =
-    let w = record_within _ _ c.args.tables.now.spans.now c.args.id c.in_ok-place.place.number (ids-within _ c.requires.order.1) (of_tables _ c.spans.ensures c.args.id c.in_ok-place.place.number c.in_ok-place.ensures.1) in
+    let w = record_within _ _ c.args.tables.now.spans.now c.args.id c.in_ok-place.place.number (ids-within _ c.requires.order.1) (of_tables _ c.spans.ensures c.args.id (Ok c.in_ok-place.place) c.in_ok-place.ensures).1 in
     record { within = w; row = rows_within c.in_ok-place.place.number (length c.args.tables.now.spans.now) span_text_row _ w c.requires.order.1.span_lengths.text_rows }
 
 pub make_span-requires-clause-pairs : goal.make_span-requires-clause-pairs
@@ -50,7 +50,7 @@ pub make_span-requires-clause-room : goal.make_span-requires-clause-room
 make_span-requires-clause-room g c =
     let content = g.S.Index.content c.args.by_id.now in
     subst (λ (q : ℕ). Roomy content.held content.room q) (sym c.in_ok-place.ensures.0)
-    (ids-roomy _ c.requires.order.1 (g.met.S.Index.once c.args.by_id.now) (g.met.G.Index.once c.args.by_segment.now) c.args.id c.in_ok-place.place.number (of_tables _ c.spans.ensures c.args.id c.in_ok-place.place.number c.in_ok-place.ensures.1))
+    (ids-roomy _ c.requires.order.1 (g.met.S.Index.once c.args.by_id.now) (g.met.G.Index.once c.args.by_segment.now) c.args.id c.in_ok-place.place.number (of_tables _ c.spans.ensures c.args.id (Ok c.in_ok-place.place) c.in_ok-place.ensures).1)
 
 pub enter_segment-requires-clause-within : goal.enter_segment-requires-clause-within
 enter_segment-requires-clause-within g c = record_within _ _ c.args.segments.now c.args.segment c.in_ok-seat.seat.number (seats-within _ c.requires.order.1) c.in_ok-seat.ensures.1.0
@@ -70,7 +70,7 @@ returns-clause-done g c = λ m ws o gives.
     let before = create_parts c.args.tables.now c.args.segments.now c.args.settings.now (g.S.Index.content c.args.by_id.now) (g.G.Index.content c.args.by_segment.now) m in
     rw c.make_span.ensures.only.defaults
     (created before o (g.met.S.Index.once c.args.by_id.now) (g.met.G.Index.once c.args.by_segment.now) g.T.Text.bytes c.args.id c.args.segment c.in_ok-place.place.number c.in_ok-seat.seat.number c.args.making
-    (of_tables _ c.spans.ensures c.args.id c.in_ok-place.place.number c.in_ok-place.ensures.1) c.in_ok-seat.ensures.1 c.make_span.new.tables.spans.now c.make_span.new.tables.span_meta.now c.enter_segment.new.segments c.make_span.new.settings
+    (of_tables _ c.spans.ensures c.args.id (Ok c.in_ok-place.place) c.in_ok-place.ensures).1 c.in_ok-seat.ensures.1 c.make_span.new.tables.spans.now c.make_span.new.tables.span_meta.now c.enter_segment.new.segments c.make_span.new.settings
     _ _ _ _ c.make_span.ensures.long c.make_span.ensures.capacity c.enter_segment.ensures.capacity
     (subst (λ (q : ℕ). Makes c.args.tables.now.spans.now c.make_span.new.tables.spans.now c.args.tables.now.span_meta.now c.make_span.new.tables.span_meta.now c.args.tables.now.defaults.now c.args.settings.now c.make_span.new.settings (g.S.Index.content c.args.by_id.now).held (g.S.Index.content c.make_span.new.by_id).held q c.args.segment c.in_ok-place.place.number c.args.making) c.in_ok-place.ensures.0 c.make_span.ensures.makes)
     (subst (λ (q : ℕ). Enters c.args.segments.now c.enter_segment.new.segments (g.G.Index.content c.args.by_segment.now).held (g.G.Index.content c.enter_segment.new.by_segment).held q c.in_ok-seat.seat.number) c.in_ok-seat.ensures.0 c.enter_segment.ensures.enters) ws gives)
