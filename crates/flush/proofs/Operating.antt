@@ -20,8 +20,10 @@ use Rattle.tables.specs.Store.{Store, free}
 use Rattle.tables.specs.InOrder.{InOrder}
 use Rattle.tables.specs.Shows.{Shows}
 use Rattle.recorder.specs.Answers.{refusal, answer}
+use Rattle.tables.specs.declared.tables.Tables.{Tables}
+use Rattle.tables.proofs.Memory.{memory_kept, memory_then}
 use Rattle.operations.specs.declared.inner.flush_tables.FlushTables.{FlushTables}
-use Rattle.operations.specs.Parts.{SharedKept}
+use Rattle.operations.specs.Parts.{SharedKept, SharedStay}
 use Rattle.operations.specs.Done.{SpansKept, ending, gone}
 use Rattle.operations.proofs.Keeping.{records-same}
 use Rattle.interpret.specs.Creation.{fields_of}
@@ -40,12 +42,18 @@ still_cached es es' None stays c = tt
 still_cached es es' (Some f) stays c = stays f.id f.number c
 
 -- nothing changed
-pub shared_start : {T : Type 0} (t : FlushTables T) → SharedKept t t
-shared_start t = record { memory = tables_kept t; strings = refl; defaults = refl }
+pub shared_start : {T : Type 0} (t : Tables T) → SharedStay t t
+shared_start t = record { memory = memory_kept t; strings = refl; defaults = refl }
+
+pub kept_start : {T : Type 0} (t : FlushTables T) → SharedKept t t
+kept_start t = record { memory = tables_kept t; strings = refl; defaults = refl }
 
 -- strings and default pairs that stayed, and then again
-pub shared_then : {T : Type 0} (t t₁ t₂ : FlushTables T) → SharedKept t t₁ → SharedKept t₁ t₂ → SharedKept t t₂
-shared_then t t₁ t₂ a b = record { memory = tables_then t t₁ t₂ a.memory b.memory; strings = b.strings ∙ a.strings; defaults = b.defaults ∙ a.defaults }
+pub shared_then : {T : Type 0} (t t₁ t₂ : Tables T) → SharedStay t t₁ → SharedStay t₁ t₂ → SharedStay t t₂
+shared_then t t₁ t₂ a b = record { memory = memory_then t t₁ t₂ a.memory b.memory; strings = b.strings ∙ a.strings; defaults = b.defaults ∙ a.defaults }
+
+pub kept_then : {T : Type 0} (t t₁ t₂ : FlushTables T) → SharedKept t t₁ → SharedKept t₁ t₂ → SharedKept t t₂
+kept_then t t₁ t₂ a b = record { memory = tables_then t t₁ t₂ a.memory b.memory; strings = b.strings ∙ a.strings; defaults = b.defaults ∙ a.defaults }
 
 -- ---- the head of an operation
 

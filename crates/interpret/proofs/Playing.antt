@@ -1,5 +1,5 @@
 -- Operations that read what they write, and then write it.
-use Rattle.std.proofs.Common.{◌≡◌, ℕ, List, ℤ, Ok, Err, Result, sym, subst, w32, w64, to_z}
+use Rattle.std.proofs.Common.{◌≡◌, ℕ, List, ℤ, Ok, Err, Option, Result, sym, subst, w32, w64, to_z}
 use Rattle.refusals.specs.declared.ChangeBufferError.{ChangeBufferError}
 use Rattle.layout.specs.Reads.{number_at, Misses, Reads}
 use Rattle.book.specs.Book.{Text, Field, error, text, int, Writing, ◌≔◌, meta, metric, Book}
@@ -12,6 +12,7 @@ use Rattle.tables.specs.Store.{Store, free}
 use Rattle.tables.specs.InOrder.{InOrder}
 use Rattle.tables.specs.Shows.{Shows}
 use Rattle.recorder.specs.Answers.{refusal}
+use Rattle.recorder.specs.Strings.{with_strings}
 use Rattle.operations.specs.Done.{ending, Done, NoneMade, gone}
 use Rattle.operations.proofs.Keeping.{records-same}
 use Rattle.operations.specs.declared.values.PairKind.{PairKind}
@@ -23,6 +24,10 @@ use Rattle.interpret.proofs.Reading.{number_reads, number-misses}
 -- the same attribute, and the same ending
 pub as_attribute : (buffer : List ℕ) (P : Book → Type 0) (p : ℕ) (a a' : Attribute) (e e' : Ending Writing) → a' ≡ a → e' ≡ e → Acts (read_attribute a) buffer P p P e → Acts (read_attribute a') buffer P p P e'
 as_attribute buffer P p a a' e e' x y h = subst (λ z. Acts (read_attribute z) buffer P p P e') (sym x) (subst (λ z. Acts (read_attribute a) buffer P p P z) (sym y) h)
+
+-- the same strings, as another slice
+pub by_strings : {T A : Type 0} (bytes : T → Text) (act : Act A) (buffer : List ℕ) (p : ℕ) (e : Ending A) (m : Store T) {ss ts : List (Option T)} → ss ≡ ts → Acts act buffer (Shows bytes (with_strings ss m)) p (Shows bytes (with_strings ss m)) e → Acts act buffer (Shows bytes (with_strings ts m)) p (Shows bytes (with_strings ts m)) e
+by_strings bytes act buffer p e m x a = subst (λ ss. Acts act buffer (Shows bytes (with_strings ss m)) p (Shows bytes (with_strings ss m)) e) x a
 
 module _ (buffer : List ℕ) (P : Book → Type 0) (p : ℕ) where
   -- ---- pairs

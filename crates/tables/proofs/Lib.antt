@@ -4,3 +4,4 @@ pub mod Gathered
 pub mod Booked
 pub mod Changing
 pub mod Emptied
+pub mod Memory

@@ -3,6 +3,7 @@ use Rattle.std.proofs.lemmas.Result.{err_from_is_err_and}
 use Rattle.book.specs.Calls.{change_buffer}
 use Rattle.recorder.proofs.Performing.{turned-away}
 use Rattle.operations.proofs.Keeping.{records-same}
+use Rattle.flush.proofs.Operating.{shared_start}
 use Rattle.flush.proofs.change_buffer.flush_change_buffer.Goals as goal
 
 pub returns-in_err-check_order-clause-call : goal.returns-in_err-check_order-clause-call
@@ -19,6 +20,9 @@ pub returns-in_err-check_order-clause-after : goal.returns-in_err-check_order-cl
 returns-in_err-check_order-clause-after g c =
     let p = err_from_is_err_and c.from_residual.result c.from_residual.ensures.1 in
     rw p.1 refl
+
+pub returns-in_err-check_order-clause-shared : goal.returns-in_err-check_order-clause-shared
+returns-in_err-check_order-clause-shared g c = shared_start _
 
 pub returns-clause-call : goal.returns-clause-call
 returns-clause-call g c = record {

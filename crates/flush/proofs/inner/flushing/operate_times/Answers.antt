@@ -7,11 +7,11 @@ use Rattle.operations.specs.Parts.{lent}
 use Rattle.interpret.specs.Played.{Played}
 use Rattle.interpret.proofs.Following.{played_start, played_more, played_turned}
 use Rattle.flush.specs.Operation.{Created}
-use Rattle.flush.proofs.Operating.{shared_start, shared_then}
+use Rattle.flush.proofs.Operating.{kept_start, kept_then}
 use Rattle.flush.proofs.inner.flushing.operate_times.Goals as goal
 
 pub loop-init : goal.loop-init
-loop-init g c = record { cached = tt; shared = shared_start _; played = played_start g.T.Text.bytes operation (held c.args.buffer.now) (Created (held c.args.buffer.now)) (lent c.args.tables.now c.args.segments.now c.args.settings.now (g.S.Index.content c.args.by_id.now) (g.G.Index.content c.args.by_segment.now)) c.args.index.now c.requires.order }
+loop-init g c = record { cached = tt; shared = kept_start _; played = played_start g.T.Text.bytes operation (held c.args.buffer.now) (Created (held c.args.buffer.now)) (lent c.args.tables.now c.args.segments.now c.args.settings.now (g.S.Index.content c.args.by_id.now) (g.G.Index.content c.args.by_segment.now)) c.args.index.now c.requires.order }
 
 pub returns-in_err-operate : goal.returns-in_err-operate
 returns-in_err-operate g c =
@@ -20,7 +20,7 @@ returns-in_err-operate g c =
     let n = c.loop.counter in
     let same : n + suc (c.args.count - suc n) ≡ c.args.count = omega arith in
     rw (p.1, p.2) (record {
-      shared = shared_then c.args.tables.now c.loop.tables c.operate.new.tables c.loop.invariant.shared c.operate.ensures.shared;
+      shared = kept_then c.args.tables.now c.loop.tables c.operate.new.tables c.loop.invariant.shared c.operate.ensures.shared;
       played =
           played_turned g.T.Text.bytes operation b (Created b) (lent c.args.tables.now c.args.segments.now c.args.settings.now (g.S.Index.content c.args.by_id.now) (g.G.Index.content c.args.by_segment.now)) c.args.index.now (Created b) (λ id e. e) (lent c.loop.tables c.loop.segments c.loop.settings (g.S.Index.content c.loop.by_id) (g.G.Index.content c.loop.by_segment)) _ n c.loop.index c.operate.new.index c.loop.invariant.played
           (c.args.count - suc n) c.args.count c.in_err-operate.field-0.0 same c.in_err-operate.ensures.played;
@@ -30,7 +30,7 @@ pub loop-preserved : goal.loop-preserved
 loop-preserved g c =
     let b = held c.args.buffer.now in record {
       cached = c.operate.ensures.cached;
-      shared = shared_then c.args.tables.now c.loop.tables c.operate.new.tables c.loop.invariant.shared c.operate.ensures.shared;
+      shared = kept_then c.args.tables.now c.loop.tables c.operate.new.tables c.loop.invariant.shared c.operate.ensures.shared;
       played = played_more g.T.Text.bytes operation b (Created b) (lent c.args.tables.now c.args.segments.now c.args.settings.now (g.S.Index.content c.args.by_id.now) (g.G.Index.content c.args.by_segment.now)) c.args.index.now (Created b) (λ id e. e) (lent c.loop.tables c.loop.segments c.loop.settings (g.S.Index.content c.loop.by_id) (g.G.Index.content c.loop.by_segment)) _ c.loop.counter c.loop.index c.operate.new.index c.loop.invariant.played
           c.in_ok-operate.ensures.played;
     }
